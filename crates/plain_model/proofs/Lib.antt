@@ -1,0 +1,5 @@
+mod Products
+mod Lists
+mod Flows
+mod Refutation
+mod Sound
