@@ -1,5 +1,5 @@
-mod Products
-mod Lists
-mod Flows
-mod Refutation
-mod Sound
+pub mod Products
+pub mod Lists
+pub mod Flows
+pub mod Refutation
+pub mod Sound

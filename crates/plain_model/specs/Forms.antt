@@ -29,7 +29,7 @@ value_at net form marking = sum_of (products (coefficients net form) marking) +�
 -- what the weights say of the place with this id, added up
 abbrev pub weight_on : List Weight → List ℕ → ℤ
 weight_on [] id = pos 0
-weight_on (weight ∷ weights) id = (if bytes_eq weight.place id then weight.value else pos 0) +ℤ weight_on weights id
+weight_on (weight ∷ weights) id = (if bytes_eq id weight.place then weight.value else pos 0) +ℤ weight_on weights id
 
 -- the coefficients of the flow, and minus its value at the initial marking: it equals 0
 abbrev pub flow_slack : PlainNet → Flow → Form
