@@ -1,0 +1,4 @@
+pub mod Firing
+pub mod Instances
+pub mod Markings
+pub mod Systems
