@@ -21,9 +21,9 @@ short_at counts row i d is_row within short =
 -- every count is below 2^63, also past the end
 pub below_limit : (counts : List ℕ) (p : ℕ) → All (λ k. k < 2 ^ 63) counts → slice_index counts p < 2 ^ 63
 below_limit counts p low =
-    elim (cases_lt p (length counts))
-    [ inl within ↦ low p 0 within
-    | inr past ↦ let none = get_or_past counts p 0 past in omega arith
+    elim (cases_lt p (length counts)) [
+      | inl within ↦ low p 0 within
+      | inr past ↦ let none = get_or_past counts p 0 past in omega arith
     ]
 
 -- each cell fits over what is left
@@ -31,11 +31,11 @@ pub room_each : (counts : List ℕ) (pre post : List Cell) → All (λ k. k < 2 
 room_each counts pre post low is_row fits p =
     let limit = below_limit counts p low in
     let together =
-        amount-within p (2 ^ 63 + amount p pre - (slice_index counts p + 1)) post is_row.rising (λ k d within here.
-        let moved = ap (slice_index counts) here in
-        let taken = ap (λ q. amount q pre) here in
-        let fit : slice_index counts (get_or post k d).at + (get_or post k d).count < 2 ^ 63 + amount (get_or post k d).at pre = fits k d within in
-        omega arith)
+    amount-within p (2 ^ 63 + amount p pre - (slice_index counts p + 1)) post is_row.rising (λ k d within here.
+    let moved = ap (slice_index counts) here in
+    let taken = ap (λ q. amount q pre) here in
+    let fit : slice_index counts (get_or post k d).at + (get_or post k d).count < 2 ^ 63 + amount (get_or post k d).at pre = fits k d within in
+    omega arith)
     in
     omega arith
 

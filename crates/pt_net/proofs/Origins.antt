@@ -38,13 +38,13 @@ higher : (a b o : Origin) → IsBefore a b → ordering_index (compared a o) ≤
 higher a b o before = higher_parts a.transition b.transition o.transition a.binding b.binding o.binding before.transition before.binding
 
 rises : (ts : List Instance) (o : Origin) → AllPairs (λ s t. IsBefore (origin_of s) (origin_of t)) ts → IsNonDecreasingBy (λ t. ordering_index (compared (origin_of t) o)) ts
-rises ts o rising = λ i j d le within. elim (cases_lt i j)
-    [ inl below ↦ higher (origin_of (get_or ts i d)) (origin_of (get_or ts j d)) o (rising i j d below within)
-    | inr above ↦
-        let same : i ≡ j = omega arith in
-        let equal = ap (λ k. ordering_index (compared (origin_of (get_or ts k d)) o)) same in
-        omega arith
-    ]
+rises ts o rising = λ i j d le within. elim (cases_lt i j) [
+  | inl below ↦ higher (origin_of (get_or ts i d)) (origin_of (get_or ts j d)) o (rising i j d below within)
+  | inr above ↦
+      let same : i ≡ j = omega arith in
+      let equal = ap (λ k. ordering_index (compared (origin_of (get_or ts k d)) o)) same in
+      omega arith
+]
 
 -- no instance has an origin that was not found
 pub missing_origin : (o : Origin) (ts : List Instance) (i : ℕ) → AllPairs (λ s t. IsBefore (origin_of s) (origin_of t)) ts
@@ -53,7 +53,7 @@ missing_origin o ts i rising search_says =
     let parted = search_says (rises ts o rising) in
     λ k d within here.
     let equal = compared-same (origin_of (get_or ts k d)) o here in
-    elim (cases_lt k i)
-    [ inl below ↦ let less = parted.0 k d (omega arith) below in let wrong : Less ≡ Equal = sym less ∙ equal in cc
-    | inr above ↦ let greater = parted.1 k d above within in let wrong : Greater ≡ Equal = sym greater ∙ equal in cc
+    elim (cases_lt k i) [
+      | inl below ↦ let less = parted.0 k d (omega arith) below in let wrong : Less ≡ Equal = sym less ∙ equal in cc
+      | inr above ↦ let greater = parted.1 k d above within in let wrong : Greater ≡ Equal = sym greater ∙ equal in cc
     ]

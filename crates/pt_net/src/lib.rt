@@ -3,9 +3,14 @@
 #![tactic(auto)]
 
 mod instances;
+mod layouts;
 mod markings;
 mod nets;
 
 pub use instances::{Instance, Origin, Side};
+pub use layouts::Layout;
 pub use markings::{FireFault, Marking};
 pub use nets::PtNet;
+
+#[cfg(test)]
+mod tests;

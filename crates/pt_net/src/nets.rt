@@ -101,7 +101,10 @@ impl PtNet {
         ensures found { IfSome result (λ i. origin_of (instance_at self.now i) ≡ origin.now) }
         ensures none { IfNone result (All (λ t. origin_of t ≢ origin.now) self.now.instances) }
     {
-        match self.instances.binary_search_by_key(origin, |instance| instance.origin()) {
+        match self
+            .instances
+            .binary_search_by_key(origin, |instance| instance.origin())
+        {
             Ok(found) => Some(found as u32),
             Err(_) => None,
         }
