@@ -1,5 +1,5 @@
 -- To look a name up in a list of entries is to look it up in the map of what they hold.
-use Rattle.std.proofs.Common.{◌≡◌, ℕ, suc, zero, Bool, true, false, cond, List, [], ◌∷◌, length, nat_lt, Option, Some, None, is_some, MatchOption, refl, sym, ap, ◌∙◌, arith}
+use Rattle.std.proofs.Common.{◌≡◌, ℕ, suc, zero, Bool, true, false, cond, List, [], ◌∷◌, length, nat_lt, Option, Some, None, is_some, MatchOption, refl, ap, ◌∙◌, arith}
 use Rattle.std.specs.List.{find, slice_get, position_or_len}
 use Rattle.std.specs.Option.{option_map}
 use Rattle.std.specs.Ordering.{nat_cmp}

@@ -1,3 +1,5 @@
+ghost use Rattle.std.specs.Prelude.{◌<◌, length, IsTrue, is_some, OnOk};
+
 use crate::{Failed, Files, HostFiles, HostSink, MemFiles, MemSink, Sink};
 use name_tables::Name;
 use sqlite_items::Items;
@@ -39,20 +41,42 @@ fn whole_files(alloc: Global) -> Result<MemFiles, Memory> {
     Ok(MemFiles::new(entries(alloc)?, Vec::new(alloc), Vec::new(alloc)))
 }
 
+/// Opens a file that is there.
+fn open(alloc: Global, files: &mut MemFiles, name: &[u8]) -> Result<(), Fail>
+    ensures { OnOk result (IsTrue (is_some files.new.current)) }
+{
+    let name = Name::new(alloc, name)?;
+    files.open_file(&name)?;
+    Ok(())
+}
+
+/// How many bytes a read into 8 zeros gives, and what stands there then.
+fn read_eight(files: &mut MemFiles) -> Result<(usize, [u8; 8]), Failed>
+    requires { IsTrue (is_some files.old.current) }
+    ensures { IsTrue (is_some files.new.current) }
+{
+    let mut buffer = [0u8; 8];
+    let count = files.read(&mut buffer)?;
+    Ok((count, buffer))
+}
+
+/// What one put answers.
+fn put(sink: &mut MemSink, piece: &[u8]) -> Result<usize, Failed>
+    requires { 0 < length piece.now }
+{
+    sink.put(piece)
+}
+
 #[test]
 fn reads_are_cut_and_listed_calls_fail(rt: HostRuntime) -> Result<(), Fail> {
     let alloc = rt.alloc();
-    let net = Name::new(alloc, b"net")?;
     let mut files = cut_files(alloc)?;
-    let mut buffer = [0u8; 8];
-    files.open_file(&net)?;
-    assert_eq!(rt; files.read(&mut buffer), Ok(3));
-    assert_eq!(rt; buffer, *b"hel\0\0\0\0\0");
-    assert_eq!(rt; files.read(&mut buffer), Err(Failed));
+    open(alloc, &mut files, b"net")?;
+    assert_eq!(rt; read_eight(&mut files), Ok((3, *b"hel\0\0\0\0\0")));
+    assert_eq!(rt; read_eight(&mut files), Err(Failed));
     assert_eq!(rt; files.faults(), 1);
-    assert_eq!(rt; files.read(&mut buffer), Ok(2));
-    assert_eq!(rt; buffer, *b"lol\0\0\0\0\0");
-    assert_eq!(rt; files.read(&mut buffer), Ok(0));
+    assert_eq!(rt; read_eight(&mut files), Ok((2, *b"lo\0\0\0\0\0\0")));
+    assert_eq!(rt; read_eight(&mut files), Ok((0, [0; 8])));
     assert_eq!(rt; files.calls(), 5);
     Ok(())
 }
@@ -61,27 +85,24 @@ fn reads_are_cut_and_listed_calls_fail(rt: HostRuntime) -> Result<(), Fail> {
 fn a_name_that_is_not_held_fails_without_a_fault(rt: HostRuntime) -> Result<(), Fail> {
     let alloc = rt.alloc();
     let mut files = whole_files(alloc)?;
-    let mut buffer = [0u8; 8];
-    let missing = files.open_file(&Name::new(alloc, b"other")?);
-    assert_eq!(rt; missing, Err(Failed));
+    let missing = Name::new(alloc, b"other")?;
+    assert_eq!(rt; files.open_file(&missing), Err(Failed));
     assert_eq!(rt; files.faults(), 0);
-    files.open_file(&Name::new(alloc, b"empty")?)?;
-    assert_eq!(rt; files.read(&mut buffer), Ok(0));
-    files.open_file(&Name::new(alloc, b"net")?)?;
-    assert_eq!(rt; files.read(&mut buffer), Ok(5));
-    assert_eq!(rt; buffer, *b"hello\0\0\0");
+    open(alloc, &mut files, b"empty")?;
+    assert_eq!(rt; read_eight(&mut files), Ok((0, [0; 8])));
+    open(alloc, &mut files, b"net")?;
+    assert_eq!(rt; read_eight(&mut files), Ok((5, *b"hello\0\0\0")));
     Ok(())
 }
 
 #[test]
 fn puts_are_cut_and_fail_where_listed_or_without_room(rt: HostRuntime) -> Result<(), Fail> {
-    let alloc = rt.alloc();
-    let mut sink = cut_sink(alloc)?;
-    assert_eq!(rt; sink.put(b"holds"), Ok(2));
-    assert_eq!(rt; sink.put(b"lds"), Ok(3));
-    assert_eq!(rt; sink.put(b"more"), Err(Failed));
-    assert_eq!(rt; sink.put(b"more"), Ok(1));
-    assert_eq!(rt; sink.put(b"ore"), Err(Failed));
+    let mut sink = cut_sink(rt.alloc())?;
+    assert_eq!(rt; put(&mut sink, b"holds"), Ok(2));
+    assert_eq!(rt; put(&mut sink, b"lds"), Ok(3));
+    assert_eq!(rt; put(&mut sink, b"more"), Err(Failed));
+    assert_eq!(rt; put(&mut sink, b"more"), Ok(1));
+    assert_eq!(rt; put(&mut sink, b"ore"), Err(Failed));
     assert_eq!(rt; sink.bytes(), b"holdsm".as_slice());
     assert_eq!(rt; sink.faults(), 2);
     assert_eq!(rt; sink.calls(), 5);

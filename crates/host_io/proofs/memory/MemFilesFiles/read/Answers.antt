@@ -1,4 +1,4 @@
-use Rattle.std.proofs.Common.{◌≡◌, ℕ, ◌+◌, ◌<◌, ◌≤◌, [], length, take, drop, rules, arith}
+use Rattle.std.proofs.Common.{◌≡◌, ◌≤◌, [], length, take, drop, rules, arith}
 use Rattle.std.proofs.lemmas.Grind.{common_steps}
 use Rattle.host_io.specs.Memory.{bytes_at}
 use Rattle.host_io.proofs.Fronts.{consumed}
