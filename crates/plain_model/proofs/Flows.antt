@@ -105,5 +105,5 @@ pub named_slack_is_zero : (net : PlainNet) (flows : List Flow) (name marking : L
 named_slack_is_zero net [] name marking holds reach = omega (arith, ints, zero_sum net.places marking)
 named_slack_is_zero net (flow ∷ flows) name marking holds reach =
     let parts = and_split (list_all (λ t. is_true (flow_check net flow t)) net.transitions) (list_all (λ f. list_all (λ t. is_true (flow_check net f t)) net.transitions) flows) holds in
-    chosen_value net marking (bytes_eq flow.name name) (flow_slack net flow) (flow_slack_of net flows name)
+    chosen_value net marking (bytes_eq name flow.name) (flow_slack net flow) (flow_slack_of net flows name)
     (flow_slack_is_zero net flow marking parts.0 reach) (named_slack_is_zero net flows name marking parts.1 reach)

@@ -66,7 +66,7 @@ zero_form = record { coefficient = λ id. pos 0; constant = [] }
 -- the slack form of the flow with this name, the first of that name
 abbrev pub flow_slack_of : PlainNet → List Flow → List ℕ → Form
 flow_slack_of net [] name = zero_form
-flow_slack_of net (flow ∷ flows) name = if bytes_eq flow.name name then flow_slack net flow else flow_slack_of net flows name
+flow_slack_of net (flow ∷ flows) name = if bytes_eq name flow.name then flow_slack net flow else flow_slack_of net flows name
 
 -- the slack form that a summand of `close` multiplies
 abbrev pub slack_of : PlainNet → Property → List Flow → Multiplier → Form

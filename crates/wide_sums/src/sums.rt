@@ -38,6 +38,7 @@ impl Sum {
     pub fn value(&self) -> i128
         ensures value { result ≡ self.now.value }
         ensures within { unsigned_abs result ≤ self.now.size }
+        ensures fits { self.now.size < 2 ^ 127 }
     {
         self.value
     }
