@@ -1,10 +1,10 @@
 -- Cells that fit one by one fit together, and a cell that doesn't is a place that doesn't.
-use Rattle.std.proofs.Common.{◌≡◌, ℕ, ◌+◌, ◌-◌, ◌^◌, ◌<◌, ◌≤◌, inl, inr, List, length, get_or, take, arith, ap, subst, sym}
+use Rattle.std.proofs.Common.{ℕ, ◌+◌, ◌-◌, ◌^◌, ◌<◌, ◌≤◌, inl, inr, List, length, get_or, take, arith, ap, subst}
 use Rattle.std.specs.Prelude.{All, slice_index}
 use Rattle.std.proofs.lemmas.Bool.{cases_lt}
 use Rattle.std.proofs.lemmas.List.{get_or_past, take_all}
 use Rattle.wide_sums.specs.declared.rows.Cell.{Cell}
-use Rattle.wide_sums.specs.Cells.{amount, IsRising, IsRow}
+use Rattle.wide_sums.specs.Cells.{amount, IsRow}
 use Rattle.wide_sums.proofs.Amounts.{amount-at, amount-within}
 use Rattle.pt_net.specs.Markings.{Covers, IsShort, IsFull}
 

@@ -1,5 +1,5 @@
 -- What a binary search for an origin finds among instances whose origins rise.
-use Rattle.std.proofs.Common.{◌≡◌, ◌≢◌, ℕ, ◌+◌, ◌<◌, ◌≤◌, Ordering, List, length, get_or, arith, ap, ◌∙◌, sym, inl, inr, refl}
+use Rattle.std.proofs.Common.{◌≡◌, ◌≢◌, ℕ, ◌<◌, ◌≤◌, Ordering, List, get_or, arith, ap, ◌∙◌, sym, inl, inr}
 use Rattle.std.specs.Prelude.{All, AllPairs}
 use Rattle.std.specs.Ordering.{nat_cmp, ordering_index, ordering_then}
 use Rattle.std.specs.declared.cmp.Ordering.TheVariants.{Less, Equal, Greater}

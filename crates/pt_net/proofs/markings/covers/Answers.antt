@@ -1,4 +1,3 @@
-use Rattle.std.proofs.Common.{arith, get_or}
 use Rattle.std.specs.Prelude.{◌≤◌, slice_index}
 use Rattle.std.proofs.lemmas.List.Elements.{All-more}
 use Rattle.wide_sums.specs.declared.rows.Cell.{Cell}
