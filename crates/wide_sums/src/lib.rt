@@ -1,19 +1,16 @@
+//! Exact sums of whole numbers in 128 bits, sparse rows of counts, and a counter of steps for
+//! contracts.
 #![tactic(auto)]
 
-use std::alloc::{AllocError, AllocFailed};
+mod counters;
+mod refusals;
+mod rows;
+mod sums;
 
-/// Memory ran out: the one error of a call that can fail only for want of memory.
-#[derive(Clone, Copy, Debug, PartialEq, Eq)]
-pub struct Memory;
+pub use counters::Steps;
+pub use refusals::{Memory, Wide};
+pub use rows::{Cell, Row};
+pub use sums::Sum;
 
-impl From<AllocError> for Memory {
-    fn from(_refused: AllocError) -> Memory {
-        Memory
-    }
-}
-
-impl<T: Drop> From<AllocFailed<T>> for Memory {
-    fn from(_refused: AllocFailed<T>) -> Memory {
-        Memory
-    }
-}
+#[cfg(test)]
+mod tests;

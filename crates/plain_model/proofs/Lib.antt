@@ -1,0 +1,5 @@
+pub mod Products
+pub mod Lists
+pub mod Flows
+pub mod Refutation
+pub mod Sound

@@ -1,0 +1,9 @@
+pub mod Firing
+pub mod Satisfaction
+pub mod Sums
+pub mod Forms
+pub mod Obligations
+pub mod Report
+pub mod Plain
+pub mod Soundness
+pub mod Ring
