@@ -1,0 +1,250 @@
+ghost use Rattle.std.specs.Prelude.{◌≡◌, ℕ, ◌<◌, ◌≤◌, List, Option, ◌++◌, length, vec_len, IsTrue, true, false, IfOk, IfErr, OnOk, OnErr};
+ghost use Rattle.std.specs.Io.KnownBytes.{Consumes, IsAtEnd};
+ghost use Rattle.host_io.specs.Causes.{Rose};
+ghost use Rattle.pnml_inputs.specs.Reading.{IsBroken, within_limit, file_reading, inputs_reading, Reads};
+
+use host_io::{Failed, Files};
+use name_tables::Name;
+use std::alloc::Global;
+use std::marker::Model;
+use thiserror::Error;
+
+/// The most bytes that a file may have.
+pub const MAX_BYTES: usize = 67_108_864;
+
+/// Which of the files of a command.
+#[derive(Clone, Copy, Debug, PartialEq, Eq)]
+pub enum Role {
+    /// The net.
+    Net,
+    /// The formula file, a list of properties.
+    Formula,
+    /// The certificate.
+    Cert,
+}
+
+/// Why the files of a command weren't read to their ends.
+#[derive(Clone, Copy, Debug, PartialEq, Eq, Error)]
+pub enum Stop {
+    /// A file couldn't be opened or read, or its name isn't held.
+    #[error("a file can't be read")]
+    Fault,
+    /// The file has more bytes than [`MAX_BYTES`].
+    #[error("a file is too long")]
+    TooLong(Role),
+    /// Memory ran out.
+    #[error("memory ran out")]
+    Memory,
+}
+
+/// The texts of the three files of a command, each within the limit.
+#[derive(Debug, Drop)]
+pub struct Inputs {
+    net: Vec<u8>,
+    formula: Vec<u8>,
+    certificate: Vec<u8>,
+}
+
+impl Model for Inputs {
+    ghost use Rattle.pnml_inputs.specs.Texts.{Texts};
+
+    ghost Value = { Texts };
+
+    ghost view = { λ i. record {
+      net = i.net.items;
+      formula = i.formula.items;
+      certificate = i.certificate.items;
+    } };
+}
+
+impl Inputs {
+    /// These three texts.
+    pub fn new(net: Vec<u8>, formula: Vec<u8>, certificate: Vec<u8>) -> Inputs
+        ensures { result ≡ record {
+          net = net.items;
+          formula = formula.items;
+          certificate = certificate.items;
+        } }
+    {
+        Inputs {
+            net,
+            formula,
+            certificate,
+        }
+    }
+
+    /// The bytes of the net file.
+    pub fn net(&self) -> &[u8]
+        ensures { result.now ≡ self.now.net }
+    {
+        self.net.as_slice()
+    }
+
+    /// The bytes of the formula file.
+    pub fn formula(&self) -> &[u8]
+        ensures { result.now ≡ self.now.formula }
+    {
+        self.formula.as_slice()
+    }
+
+    /// The bytes of the certificate file.
+    pub fn certificate(&self) -> &[u8]
+        ensures { result.now ≡ self.now.certificate }
+    {
+        self.certificate.as_slice()
+    }
+
+    /// The texts of the net, the formula and the certificate, in this order.
+    pub fn into_parts(self) -> (Vec<u8>, Vec<u8>, Vec<u8>)
+        ensures net { result.0.items ≡ self.net }
+        ensures formula { result.1.items ≡ self.formula }
+        ensures certificate { result.2.items ≡ self.certificate }
+    {
+        let Inputs {
+            net,
+            formula,
+            certificate,
+        } = self;
+        (net, formula, certificate)
+    }
+}
+
+/// A buffer for reading, which serves all files of a command.
+fn new_buffer(alloc: Global) -> Result<Vec<u8>, Stop>
+    ensures room { IfOk result (λ buffer. 0 < length buffer.items) }
+    ensures memory { OnErr result (result ≡ Err Stop.Memory) }
+{
+    match vec![in alloc; 0u8; 65_536] {
+        Ok(buffer) => Ok(buffer),
+        Err(_) => Err(Stop::Memory),
+    }
+}
+
+/// Reads once, to the end of `bytes`. It answers whether any byte came.
+fn read_more<F: Files>(files: &mut F, buffer: &mut [u8], bytes: &mut Vec<u8>) -> Result<bool, Stop>
+    requires ready { IsTrue (F.ready files.old) }
+    requires room { 0 < length buffer.old }
+    ensures ready { IsTrue (F.ready files.new) }
+    ensures same { F.held files.new ≡ F.held files.old }
+    ensures later { F.faults files.old ≤ F.faults files.new }
+    ensures more { result ≡ Ok true → vec_len bytes.old < vec_len bytes.new }
+    ensures consumed { OnOk result ((told : Option (List ℕ))
+        → Consumes told (F.left files.old) bytes.old.items
+        → Consumes told (F.left files.new) bytes.new.items) }
+    ensures end { result ≡ Ok false → IsAtEnd (F.left files.new) × (bytes.new.items ≡ bytes.old.items) }
+    ensures stop { IfErr result (λ stop. IsBroken (F.faults files.old) (F.faults files.new) stop) }
+{
+    let count = match files.read(buffer) {
+        Ok(count) => count,
+        Err(Failed) => return Err(Stop::Fault),
+    };
+    match bytes.extend_from_slice(&buffer[..count]) {
+        Ok(()) => Ok(0 < count),
+        Err(_) => Err(Stop::Memory),
+    }
+}
+
+/// Reads what is left of the current file. The first byte past the limit ends the reading.
+fn read_to_end<F: Files>(
+    alloc: Global,
+    role: Role,
+    files: &mut F,
+    buffer: &mut [u8],
+) -> Result<Vec<u8>, Stop>
+    requires ready { IsTrue (F.ready files.old) }
+    requires room { 0 < length buffer.old }
+    ensures same { F.held files.new ≡ F.held files.old }
+    ensures later { F.faults files.old ≤ F.faults files.new }
+    ensures read { Reads (λ bytes. bytes.items) (F.left files.old) (within_limit role)
+        (F.faults files.old) (F.faults files.new) result }
+{
+    let mut bytes = Vec::new(alloc);
+    while bytes.len() <= MAX_BYTES {
+        match read_more(files, buffer, &mut bytes) {
+            Ok(true) => {}
+            Ok(false) => return Ok(bytes),
+            Err(stop) => return Err(stop),
+        }
+    }
+    Err(Stop::TooLong(role))
+}
+
+/// Opens one file and reads it to its end.
+fn read_file<F: Files>(
+    alloc: Global,
+    role: Role,
+    name: &Name,
+    files: &mut F,
+    buffer: &mut [u8],
+) -> Result<Vec<u8>, Stop>
+    requires { 0 < length buffer.old }
+    ensures same { F.held files.new ≡ F.held files.old }
+    ensures later { F.faults files.old ≤ F.faults files.new }
+    ensures read { Reads (λ bytes. bytes.items) (F.held files.old) (file_reading role name.now)
+        (F.faults files.old) (F.faults files.new) result }
+{
+    match files.open_file(name) {
+        Ok(()) => read_to_end(alloc, role, files, buffer),
+        Err(Failed) => Err(Stop::Fault),
+    }
+}
+
+/// Reads the one file of a command to its end.
+///
+/// Where it is told which names are held, the answer is what reading the file comes to: its bytes, or
+/// [`Stop::TooLong`] of the role. [`Stop::Fault`] comes only where the count of faults rose
+/// in this call or the name isn't held, and [`Stop::Memory`] for want of memory.
+pub fn read_input<F: Files>(
+    alloc: Global,
+    role: Role,
+    name: &Name,
+    files: &mut F,
+) -> Result<Vec<u8>, Stop>
+    ensures same { F.held files.new ≡ F.held files.old }
+    ensures later { F.faults files.old ≤ F.faults files.new }
+    ensures read { Reads (λ bytes. bytes.items) (F.held files.old) (file_reading role name.now)
+        (F.faults files.old) (F.faults files.new) result }
+{
+    match new_buffer(alloc) {
+        Ok(mut buffer) => read_file(alloc, role, name, files, &mut buffer),
+        Err(_) => Err(Stop::Memory),
+    }
+}
+
+/// Reads the three files of a command to their ends, the net first, then the formula file and the
+/// certificate. After a stop no later file is opened.
+///
+/// Where it is told which names are held, the answer is what the reading of the three comes to: their
+/// bytes, or [`Stop::TooLong`] of the first file that is longer than the limit. [`Stop::Fault`] comes
+/// only where the count of faults rose in this call, or where the name of a file isn't held before
+/// which none is too long, and [`Stop::Memory`] for want of memory.
+pub fn read_inputs<F: Files>(
+    alloc: Global,
+    net: &Name,
+    formula: &Name,
+    certificate: &Name,
+    files: &mut F,
+) -> Result<Inputs, Stop>
+    ensures same { F.held files.new ≡ F.held files.old }
+    ensures later { F.faults files.old ≤ F.faults files.new }
+    ensures read { Reads (λ inputs. inputs) (F.held files.old)
+        (inputs_reading net.now formula.now certificate.now)
+        (F.faults files.old) (F.faults files.new) result }
+{
+    let mut buffer = match new_buffer(alloc) {
+        Ok(buffer) => buffer,
+        Err(_) => return Err(Stop::Memory),
+    };
+    let net = match read_file(alloc, Role::Net, net, files, &mut buffer) {
+        Ok(bytes) => bytes,
+        Err(stop) => return Err(stop),
+    };
+    let formula = match read_file(alloc, Role::Formula, formula, files, &mut buffer) {
+        Ok(bytes) => bytes,
+        Err(stop) => return Err(stop),
+    };
+    match read_file(alloc, Role::Cert, certificate, files, &mut buffer) {
+        Ok(certificate) => Ok(Inputs::new(net, formula, certificate)),
+        Err(stop) => Err(stop),
+    }
+}
