@@ -1,0 +1,6 @@
+pub mod Distinct
+pub mod Rows
+pub mod Ends
+pub mod Built
+pub mod Layouts
+pub mod Reaches

@@ -1,0 +1,110 @@
+ghost use Rattle.std.specs.Prelude.{◌≡◌, ◌++◌, [], ◌∷◌, ◌<◌, ◌^◌, map, All, OnOk, IfOk, IfSome};
+ghost use Rattle.plain_model.specs.Plain.{IsId, node_ids, place_ids};
+ghost use Rattle.plain_rows.specs.Nodes.{IsNode, IsFreshPlace, IsFreshArc, AreNumbered, AreNodes};
+
+use crate::faults::BuildFault;
+use name_tables::{Added, Ids, Name, is_id};
+use plain_model::{Arc, Place, PlainNet};
+use std::alloc::Global;
+
+// 2^63 - 1, the largest count.
+const MAX_COUNT: u64 = 9_223_372_036_854_775_807;
+
+/// A place or a transition, by its number among its kind.
+#[derive(Clone, Copy, Debug, PartialEq, Eq)]
+pub enum Node {
+    /// The place with this number.
+    Place(u32),
+    /// The transition with this number.
+    Transition(u32),
+}
+
+/// Numbers one more node. `NotYet` comes where its id is none, or is taken.
+fn add_node(alloc: Global, ids: &mut Ids, id: &Name) -> Result<(), BuildFault>
+    requires { AreNumbered ids.old }
+    ensures added { OnOk result (ids.new ≡ ids.old ++ id.now ∷ []) }
+    ensures numbered { OnOk result (AreNumbered ids.new) }
+    ensures id { OnOk result (IsId id.now) }
+{
+    if ids.count() == u32::MAX || !is_id(id.bytes()) {
+        return Err(BuildFault::NotYet);
+    }
+    match ids.add(id.copy(alloc)?)? {
+        Added::New(_) => Ok(()),
+        Added::Old(_) => Err(BuildFault::NotYet),
+    }
+}
+
+/// Numbers these places.
+pub fn add_places(alloc: Global, ids: &mut Ids, places: &[Place]) -> Result<(), BuildFault>
+    requires { AreNumbered ids.old }
+    ensures added { OnOk result (ids.new ≡ ids.old ++ map (λ place. place.id) places.now) }
+    ensures numbered { OnOk result (AreNumbered ids.new) }
+    ensures places { OnOk result (All IsFreshPlace places.now) }
+{
+    for place in places {
+        if place.marking > MAX_COUNT {
+            return Err(BuildFault::NotYet);
+        }
+        add_node(alloc, ids, &place.id)?;
+    }
+    Ok(())
+}
+
+/// Numbers these transitions.
+pub fn add_transitions(alloc: Global, ids: &mut Ids, transitions: &[Name]) -> Result<(), BuildFault>
+    requires { AreNumbered ids.old }
+    ensures added { OnOk result (ids.new ≡ ids.old ++ transitions.now) }
+    ensures numbered { OnOk result (AreNumbered ids.new) }
+    ensures transitions { OnOk result (All IsId transitions.now) }
+{
+    for transition in transitions {
+        add_node(alloc, ids, transition)?;
+    }
+    Ok(())
+}
+
+/// Numbers these arcs.
+fn add_arcs(alloc: Global, ids: &mut Ids, arcs: &[Arc]) -> Result<(), BuildFault>
+    requires { AreNumbered ids.old }
+    ensures added { OnOk result (ids.new ≡ ids.old ++ map (λ arc. arc.id) arcs.now) }
+    ensures numbered { OnOk result (AreNumbered ids.new) }
+    ensures arcs { OnOk result (All IsFreshArc arcs.now) }
+{
+    for arc in arcs {
+        if arc.weight == 0 || arc.weight > MAX_COUNT {
+            return Err(BuildFault::NotYet);
+        }
+        add_node(alloc, ids, &arc.id)?;
+    }
+    Ok(())
+}
+
+/// Numbers all nodes of the net: its places, its transitions and its arcs, in this order.
+pub fn number_nodes(alloc: Global, net: &PlainNet) -> Result<Ids, BuildFault>
+    ensures nodes { IfOk result (λ ids. ids ≡ node_ids net.now) }
+    ensures in_form { OnOk result (AreNodes net.now) }
+{
+    let mut ids = Ids::new(alloc);
+    add_places(alloc, &mut ids, net.places.as_slice())?;
+    add_transitions(alloc, &mut ids, net.transitions.as_slice())?;
+    add_arcs(alloc, &mut ids, net.arcs.as_slice())?;
+    Ok(ids)
+}
+
+/// The node with this id among the numbered nodes of the net, `None` where no place and no
+/// transition has it.
+pub fn node_of(nodes: &Ids, net: &PlainNet, id: &Name) -> Option<Node>
+    requires { nodes.now ≡ node_ids net.now }
+    ensures { IfSome result (IsNode net.now id.now) }
+{
+    let at = nodes.find(id.bytes())? as usize;
+    let places = net.places.len();
+    if at < places {
+        return Some(Node::Place(at as u32));
+    }
+    if at - places < net.transitions.len() {
+        return Some(Node::Transition((at - places) as u32));
+    }
+    None
+}

@@ -1,0 +1,5 @@
+use Rattle.std.proofs.Common.{length}
+use Rattle.plain_text.proofs.net_reader.take_arcs.Given as goal
+
+abbrev pub decreases-loop-alloc : goal.decreases-loop-alloc
+decreases-loop-alloc l = length l.source
