@@ -1,0 +1,7 @@
+mod RaisedPlaces
+mod Terms
+mod Dense
+mod Sums
+mod Slacks
+mod Residues
+mod Order

@@ -1,0 +1,179 @@
+-- Laws of obligations judged in order.
+use Rattle.std.proofs.Common.{◌≡◌, ℕ, zero, suc, ◌+◌, ◌^◌, ◌<◌, Bool, true, false, cond, ◌||◌, List, [], ◌∷◌, ◌++◌, map, length, get_or, drop, ℤ, neg_ℤ, refl, sym, ◌∙◌, ap, subst, arith, nat_eq, nat_le, Some}
+use Rattle.std.specs.Prelude.{flat_map, unsigned_abs, slice_get}
+use Rattle.std.specs.List.{enumerate_from}
+use Rattle.std.proofs.lemmas.Simd.{map-map}
+use Rattle.std.proofs.lemmas.List.{length-append, length-map}
+use Rattle.wide_sums.specs.Total.{total_of}
+use Rattle.pt_net.specs.Markings.{counts_of, IsInRange}
+use Rattle.pt_net.specs.Systems.{NetSystem, instance_at}
+use Rattle.plain_model.specs.declared.nets.PlainNet.{PlainNet}
+use Rattle.plain_model.specs.declared.nets.Place.{Place}
+use Rattle.plain_model.specs.declared.certificates.Flow.{Flow}
+use Rattle.plain_model.specs.declared.certificates.Certificate.{Certificate}
+use Rattle.plain_model.specs.declared.properties.Property.{Property}
+use Rattle.plain_model.specs.declared.nets.Arc.{Arc}
+use Rattle.plain_model.specs.declared.verdicts.Check.{Check}
+use Rattle.plain_model.specs.declared.verdicts.Check.TheVariants as check
+use Rattle.plain_model.specs.declared.verdicts.Spot.{Spot}
+use Rattle.plain_model.specs.declared.verdicts.Spot.TheVariants.{Step, Close}
+use Rattle.plain_model.specs.declared.verdicts.Judged.{Judged}
+use Rattle.plain_model.specs.declared.verdicts.Judged.TheVariants.{Shown, NotShown, Range}
+use Rattle.plain_model.specs.Firing.{inputs, outputs}
+use Rattle.plain_model.specs.Sums.{sum_of, products}
+use Rattle.plain_model.specs.Forms.{coefficients, flow_slack}
+use Rattle.plain_model.specs.Obligations.{Obligation, close_check, flow_check, judgement, judged}
+use Rattle.plain_judge.specs.Cells.{cells_check, counts_check, keeps_total}
+use Rattle.plain_judge.proofs.Dense.{cells_check-dense}
+use Rattle.plain_judge.proofs.Residues.{get_or-map}
+use Rattle.plain_model.specs.Forms.{weight_on}
+use Rattle.plain_model.specs.Plain.{AreDistinct, IsPlainNet, place_ids}
+use Rattle.plain_rows.specs.Rows.{AreRowsOf}
+use Rattle.wide_sums.specs.declared.rows.Cell.{Cell}
+use Rattle.plain_judge.specs.Judging.{all_judged, then_judged, judged_rows, instance_check, row_checks, steps, flows_judged}
+
+-- one obligation first
+all_judged-first : (spot : Spot) (verdict : Check) (os : List Obligation) → all_judged (record { spot = spot; check = verdict } ∷ os) ≡ then_judged spot verdict (all_judged os)
+all_judged-first spot check.True os = refl
+all_judged-first spot check.False os = refl
+all_judged-first spot check.Wide os = refl
+
+-- what the first list says, and then the second
+abbrev pub or_else : Judged → Judged → Judged
+or_else Shown next = next
+or_else (NotShown spot) next = NotShown spot
+or_else (Range spot) next = Range spot
+
+then_or_else : (spot : Spot) (verdict : Check) (first next : Judged) → then_judged spot verdict (or_else first next) ≡ or_else (then_judged spot verdict first) next
+then_or_else spot check.True first next = refl
+then_or_else spot check.False first next = refl
+then_or_else spot check.Wide first next = refl
+
+pub all_judged-append : (xs ys : List Obligation) → all_judged (xs ++ ys) ≡ or_else (all_judged xs) (all_judged ys)
+all_judged-append [] ys = refl
+all_judged-append (x ∷ xs) ys =
+    all_judged-first x.spot x.check (xs ++ ys)
+    ∙ ap (then_judged x.spot x.check) (all_judged-append xs ys)
+    ∙ then_or_else x.spot x.check (all_judged xs) (all_judged ys)
+    ∙ ap (λ j. or_else j (all_judged ys)) (sym (all_judged-first x.spot x.check xs))
+
+-- the steps of a flow are judged by their checks
+steps_judged : (number from : ℕ) (f : List ℕ → Check) (ts : List (List ℕ))
+    → all_judged (map (λ transition. record { spot = Step number transition.0; check = f transition.1 }) (enumerate_from from ts)) ≡ judged_rows number from (map f ts)
+steps_judged number from f [] = refl
+steps_judged number from f (t ∷ ts) =
+    all_judged-first (Step number from) (f t) (map (λ transition. record { spot = Step number transition.0; check = f transition.1 }) (enumerate_from (from + 1) ts))
+    ∙ ap (then_judged (Step number from) (f t)) (steps_judged number (from + 1) f ts)
+
+-- the flows from a number on
+abbrev pub flows_from : PlainNet → ℕ → List Flow → Judged
+flows_from net number flows = all_judged (flat_map (λ flow. steps net flow.0 flow.1) (enumerate_from number flows))
+
+pub flows_from-first : (net : PlainNet) (number : ℕ) (flow : Flow) (flows : List Flow)
+    → flows_from net number (flow ∷ flows) ≡ or_else (judged_rows number 0 (map (flow_check net flow) net.transitions)) (flows_from net (number + 1) flows)
+flows_from-first net number flow flows =
+    all_judged-append (steps net number flow) (flat_map (λ f. steps net f.0 f.1) (enumerate_from (number + 1) flows))
+    ∙ ap (λ j. or_else j (flows_from net (number + 1) flows)) (steps_judged number 0 (flow_check net flow) net.transitions)
+
+keeps_as_judged : (terms : List ℤ) → keeps_total (total_of terms) ≡ judged (terms ∷ []) (nat_eq (unsigned_abs (sum_of terms)) 0)
+keeps_as_judged terms = cases (nat_le (2 ^ 127) (total_of terms).size)
+  where
+    cases : (b : Bool) → cond b check.Wide (cond (nat_eq (unsigned_abs (total_of terms).value) 0) check.True check.False) ≡ cond (b || false) check.Wide (cond (nat_eq (unsigned_abs (sum_of terms)) 0) check.True check.False)
+    cases true = refl
+    cases false = refl
+
+-- a step over sparse rows is that over their counts
+pub cells_check-counts : (ys : List ℤ) (taken put : List Cell) → IsInRange (length ys) taken → IsInRange (length ys) put
+    → cells_check ys taken put ≡ counts_check ys (counts_of (length ys) taken) (counts_of (length ys) put)
+cells_check-counts ys taken put taken_within put_within =
+    ap keeps_total (cells_check-dense ys taken put taken_within put_within)
+    ∙ keeps_as_judged (products ys (counts_of (length ys) put) ++ map neg_ℤ (products ys (counts_of (length ys) taken)))
+
+drop_next : {X : Type 0} (xs : List X) (i : ℕ) (d : X) → i < length xs → drop i xs ≡ get_or xs i d ∷ drop (i + 1) xs
+drop_next [] i d within = absurd (omega arith)
+drop_next (x ∷ xs) zero d within = refl
+drop_next (x ∷ xs) (suc i) d within = drop_next xs i d (omega arith) ∙ (let same : suc (i + 1) ≡ suc i + 1 = omega arith in ap (λ n. get_or xs i d ∷ drop n (x ∷ xs)) same)
+
+-- the check of the next instance decides, or the rest
+pub rows_decided : (flow at : ℕ) (ys : List ℤ) (system : NetSystem) (verdict : Check) (taken put : List Cell) (whole : Judged) → at < length system.instances
+    → verdict ≡ counts_check ys (counts_of (length ys) taken) (counts_of (length ys) put)
+    → taken ≡ (instance_at system at).pre → put ≡ (instance_at system at).post
+    → whole ≡ judged_rows flow at (drop at (row_checks ys system.instances))
+    → whole ≡ then_judged (Step flow at) verdict (judged_rows flow (at + 1) (drop (at + 1) (row_checks ys system.instances)))
+rows_decided flow at ys system verdict taken put whole within is taken_is put_is so_far =
+    let inside : at < length (row_checks ys system.instances) = omega (arith, length-map system.instances (instance_check ys)) in
+    let here : get_or (row_checks ys system.instances) at verdict ≡ verdict =
+    get_or-map (instance_check ys) system.instances at (record { transition = 0; binding = 0; pre = []; post = [] }) verdict within
+    ∙ sym (is ∙ ap (λ cells. counts_check ys (counts_of (length ys) cells) (counts_of (length ys) put)) taken_is
+    ∙ ap (λ cells. counts_check ys (counts_of (length ys) (instance_at system at).pre) (counts_of (length ys) cells)) put_is) in
+    so_far
+    ∙ ap (judged_rows flow at) (drop_next (row_checks ys system.instances) at verdict inside)
+    ∙ ap (λ k. then_judged (Step flow at) k (judged_rows flow (at + 1) (drop (at + 1) (row_checks ys system.instances)))) here
+
+same_lists : {X : Type 0} (xs ys : List X) → length xs ≡ length ys → ((i : ℕ) (d : X) → i < length xs → get_or xs i d ≡ get_or ys i d) → xs ≡ ys
+same_lists [] [] long each = refl
+same_lists [] (y ∷ ys) long each = absurd (omega arith)
+same_lists (x ∷ xs) [] long each = absurd (omega arith)
+same_lists (x ∷ xs) (y ∷ ys) long each =
+    ap (λ z. z ∷ xs) (each 0 x (omega arith)) ∙ ap (λ zs. y ∷ zs) (same_lists xs ys (omega arith) (λ i d within. each (suc i) d (omega arith)))
+
+get-is_Some : {X : Type 0} (xs : List X) (i : ℕ) (d : X) → i < length xs → slice_get xs i ≡ Some (get_or xs i d)
+get-is_Some [] i d within = absurd (omega arith)
+get-is_Some (x ∷ xs) zero d within = refl
+get-is_Some (x ∷ xs) (suc i) d within = get-is_Some xs i d (omega arith)
+
+-- the instances are checked as the transitions of the file
+instances_checked : (net : PlainNet) (system : NetSystem) (flow : Flow) (ys : List ℤ) → AreRowsOf net system → ys ≡ coefficients net (flow_slack net flow) → length ys ≡ length net.places
+    → row_checks ys system.instances ≡ map (flow_check net flow) net.transitions
+instances_checked net system flow ys rows are long =
+    same_lists (row_checks ys system.instances) (map (flow_check net flow) net.transitions)
+    (length-map system.instances (instance_check ys) ∙ rows.as_many ∙ sym (length-map net.transitions (flow_check net flow)))
+    (λ i d within.
+    let inside : i < length system.instances = omega (arith, length-map system.instances (instance_check ys)) in
+    let there : i < length net.transitions = omega (arith, rows.as_many) in
+    let instance = rows.each i (get_or net.transitions i []) (get-is_Some net.transitions i [] there) in
+    get_or-map (instance_check ys) system.instances i (record { transition = 0; binding = 0; pre = []; post = [] }) d inside
+    ∙ ap (λ n. counts_check ys (counts_of n (instance_at system i).pre) (counts_of n (instance_at system i).post)) long
+    ∙ ap (λ takes. counts_check ys takes (counts_of (length net.places) (instance_at system i).post)) instance.pre
+    ∙ ap (λ puts. counts_check ys (inputs net (get_or net.transitions i [])) puts) instance.post
+    ∙ ap (λ zs. counts_check zs (inputs net (get_or net.transitions i [])) (outputs net (get_or net.transitions i []))) are
+    ∙ sym (get_or-map (flow_check net flow) net.transitions i [] d there))
+
+-- the steps of the next flow decide, or the rest
+pub flows_decided : (net : PlainNet) (system : NetSystem) (ids : List (List ℕ)) (flows : List Flow) (at : ℕ) (d : Flow) (ys : List ℤ) (verdict whole : Judged) → at < length flows
+    → AreRowsOf net system → ids ≡ place_ids net
+    → ys ≡ map (weight_on (get_or flows at d).weights) ids
+    → verdict ≡ judged_rows at 0 (row_checks ys system.instances)
+    → whole ≡ flows_from net at (drop at flows)
+    → whole ≡ or_else verdict (flows_from net (at + 1) (drop (at + 1) flows))
+flows_decided net system ids flows at d ys verdict whole within rows places spread is so_far =
+    let are : ys ≡ coefficients net (flow_slack net (get_or flows at d)) =
+    spread ∙ ap (map (weight_on (get_or flows at d).weights)) places ∙ map-map (weight_on (get_or flows at d).weights) (λ (place : Place). place.id) net.places in
+    let long : length ys ≡ length net.places = ap length are ∙ length-map net.places _ in
+    so_far
+    ∙ ap (flows_from net at) (drop_next flows at d within)
+    ∙ flows_from-first net at (get_or flows at d) (drop (at + 1) flows)
+    ∙ ap (λ checks. or_else (judged_rows at 0 checks) (flows_from net (at + 1) (drop (at + 1) flows))) (sym (instances_checked net system (get_or flows at d) ys rows are long))
+    ∙ ap (λ j. or_else j (flows_from net (at + 1) (drop (at + 1) flows))) (sym is)
+
+-- the flows, and then `close`
+pub judgement_after : (net : PlainNet) (property : Property) (certificate : Certificate) (first : Judged) → first ≡ flows_judged net certificate.flows
+    → judgement net property certificate ≡ or_else first (then_judged Close (close_check net property certificate) Shown)
+judgement_after net property certificate first is =
+    all_judged-append (flat_map (λ (flow : ℕ × Flow). steps net flow.0 flow.1) (enumerate_from 0 certificate.flows)) (record { spot = Close; check = close_check net property certificate } ∷ [])
+    ∙ ap (λ j. or_else (flows_judged net certificate.flows) j) (all_judged-first Close (close_check net property certificate) [])
+    ∙ ap (λ j. or_else j (then_judged Close (close_check net property certificate) Shown)) (sym is)
+
+front_of : {X : Type 0} (xs ys : List X) (i : ℕ) (d : X) → i < length xs → get_or (xs ++ ys) i d ≡ get_or xs i d
+front_of [] ys i d within = absurd (omega arith)
+front_of (x ∷ xs) ys zero d within = refl
+front_of (x ∷ xs) ys (suc i) d within = front_of xs ys i d (omega arith)
+
+distinct_front : (xs ys : List (List ℕ)) → AreDistinct (xs ++ ys) → AreDistinct xs
+distinct_front xs ys distinct i j d below within =
+    λ same. distinct i j d below (omega (arith, length-append xs ys)) (front_of xs ys i d (omega arith) ∙ same ∙ sym (front_of xs ys j d within))
+
+-- the ids of the places of a plain net are distinct
+pub distinct_places : (net : PlainNet) (ids : List (List ℕ)) → IsPlainNet net → ids ≡ place_ids net → AreDistinct ids
+distinct_places net ids plain are =
+    subst AreDistinct (sym are) (distinct_front (place_ids net) net.transitions (distinct_front (place_ids net ++ net.transitions) (map (λ (arc : Arc). arc.id) net.arcs) plain.distinct))

@@ -1,0 +1,18 @@
+use Rattle.std.proofs.Common.{◌≡◌, ◌+◌, ◌<◌, length, pos, ◌*ℤ◌, take, get_or, rules, FitsSigned, w64, arith}
+use mir.Facts.{to_z-of_z}
+use Rattle.plain_model.specs.Forms.{times_in}
+use Rattle.plain_judge.proofs.RaisedPlaces.{Raises-raised, listed_more}
+use Rattle.plain_judge.proofs.spreads.add_listed.Goals as goal
+
+pub loop-name-preserved : goal.loop-name-preserved
+loop-name-preserved c =
+    let fits : FitsSigned w64 c.args.value = search rules in
+    let is = simp to_z-of_z at c.in_ok-raise-in-Some.ensures in
+    let within : c.loop-name.name-index < length c.args.listed.now = omega arith in
+    let one : get_or c.args.listed.now c.loop-name.name-index c.name-item.result ≡ c.name-item.result = search rules in
+    let before = simp to_z-of_z at c.loop-name.invariant in
+    simp to_z-of_z (Raises-raised c.args.ids.now (λ id. c.args.value *ℤ pos (times_in (take c.loop-name.name-index c.args.listed.now) id)) (λ id. c.args.value *ℤ pos (times_in (take (c.loop-name.name-index + 1) c.args.listed.now) id))
+    c.args.coefficients.now c.loop-name.coefficients c.raise.new.coefficients c.in-Some.place c.name-item.result c.args.value
+    c.requires.distinct (search rules) (search rules) is
+    (λ id. listed_more c.args.value c.args.listed.now c.loop-name.name-index c.name-item.result id within one)
+    before)

@@ -1,0 +1,7 @@
+use Rattle.std.proofs.Common.{take, pos, ◌*ℤ◌}
+use Rattle.plain_model.specs.Forms.{times_in}
+use Rattle.plain_judge.specs.Coefficients.{Raises}
+use Rattle.plain_judge.proofs.spreads.add_listed.Given as goal
+
+abbrev pub invariant-loop-name : goal.invariant-loop-name
+invariant-loop-name l = Raises l.ids (λ id. l.value *ℤ pos (times_in (take l.name-index l.listed) id)) l.fn.coefficients l.coefficients

@@ -1,0 +1,5 @@
+pub mod Coefficients
+pub mod Cells
+pub mod Residuals
+pub mod Closing
+pub mod Judging

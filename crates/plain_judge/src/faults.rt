@@ -1,0 +1,29 @@
+use thiserror::Error;
+use wide_sums::Memory;
+
+/// The certificate or the property isn't of the first grammar.
+#[derive(Clone, Copy, Debug, PartialEq, Eq)]
+pub struct NotYet;
+
+/// Why there is no judgement.
+#[derive(Clone, Copy, Debug, PartialEq, Eq, Error)]
+pub enum JudgeFault {
+    /// The certificate or the property isn't of the first grammar.
+    #[error("the certificate or the property is outside the first grammar")]
+    NotYet,
+    /// Memory ran out.
+    #[error("out of memory")]
+    Memory,
+}
+
+impl From<NotYet> for JudgeFault {
+    fn from(_refused: NotYet) -> JudgeFault {
+        JudgeFault::NotYet
+    }
+}
+
+impl From<Memory> for JudgeFault {
+    fn from(_refused: Memory) -> JudgeFault {
+        JudgeFault::Memory
+    }
+}

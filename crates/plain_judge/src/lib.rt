@@ -1,0 +1,22 @@
+//! Judges the obligations of a certificate of flows over packed rows, by exact sums of 128 bits.
+//!
+//! The obligations are taken in order: each flow with each transition, and then the `close` line.
+//! The first one that isn't true decides.
+#![tactic(auto)]
+
+mod closes;
+mod constants;
+mod examining;
+mod faults;
+mod flows;
+mod judging;
+mod naming;
+mod residuals;
+mod spreads;
+mod steps;
+#[cfg(test)]
+mod tests;
+
+pub use examining::is_plain_property;
+pub use faults::JudgeFault;
+pub use judging::judge;
