@@ -13,7 +13,7 @@ use Rattle.wide_sums.specs.declared.rows.Cell.{Cell}
 use Rattle.pt_net.specs.Markings.{counts_of}
 use Rattle.plain_model.specs.Sums.{products}
 use Rattle.plain_model.proofs.Products.{mul_counts}
-use Rattle.plain_judge.specs.Cells.{signed, cell_term, cell_terms, step_terms}
+use Rattle.plain_judge.specs.Cells.{signed, cell_term, cell_terms, row_terms}
 
 size_split : (is_taken : Bool) (y : ℤ) (more count : ℕ)
     → unsigned_abs (signed is_taken (y *ℤ pos (more + count))) ≡ unsigned_abs (signed is_taken (y *ℤ pos count)) + unsigned_abs (signed is_taken (y *ℤ pos more))
@@ -116,7 +116,7 @@ signed_false (x ∷ xs) = ap (λ ys. x ∷ ys) (signed_false xs)
 
 -- a step over sparse rows is that over their lists of counts
 pub cells_check-dense : (ys : List ℤ) (taken put : List Cell) → All (λ c. c.at < length ys) taken → All (λ c. c.at < length ys) put
-    → total_of (step_terms ys taken put) ≡ total_of (products ys (counts_of (length ys) put) ++ map neg_ℤ (products ys (counts_of (length ys) taken)))
+    → total_of (row_terms ys taken put) ≡ total_of (products ys (counts_of (length ys) put) ++ map neg_ℤ (products ys (counts_of (length ys) taken)))
 cells_check-dense ys taken put taken_within put_within =
     total_of-append (cell_terms false ys put) (cell_terms true ys taken)
     ∙ ap (λ t. joined t (total_of (cell_terms true ys taken))) (sparse_is_dense false ys put (recursion_from_All _ put put_within) ∙ ap total_of (signed_false (products ys (counts_of (length ys) put))))

@@ -22,8 +22,8 @@ use Rattle.plain_model.specs.declared.verdicts.Judged.TheVariants.{Shown, NotSho
 use Rattle.plain_model.specs.Firing.{inputs, outputs}
 use Rattle.plain_model.specs.Sums.{sum_of, products}
 use Rattle.plain_model.specs.Forms.{coefficients, flow_slack}
-use Rattle.plain_model.specs.Obligations.{Obligation, close_check, flow_check, judgement, judged}
-use Rattle.plain_judge.specs.Cells.{cells_check, counts_check, keeps_total}
+use Rattle.plain_model.specs.Obligations.{Obligation, close_check, flow_check, judgement, judged, step_check}
+use Rattle.plain_judge.specs.Cells.{cells_check, keeps_total}
 use Rattle.plain_judge.proofs.Dense.{cells_check-dense}
 use Rattle.plain_judge.proofs.Residues.{get_or-map}
 use Rattle.plain_model.specs.Forms.{weight_on}
@@ -84,7 +84,7 @@ keeps_as_judged terms = cases (nat_le (2 ^ 127) (total_of terms).size)
 
 -- a step over sparse rows is that over their counts
 pub cells_check-counts : (ys : List ℤ) (taken put : List Cell) → IsInRange (length ys) taken → IsInRange (length ys) put
-    → cells_check ys taken put ≡ counts_check ys (counts_of (length ys) taken) (counts_of (length ys) put)
+    → cells_check ys taken put ≡ step_check ys (counts_of (length ys) taken) (counts_of (length ys) put)
 cells_check-counts ys taken put taken_within put_within =
     ap keeps_total (cells_check-dense ys taken put taken_within put_within)
     ∙ keeps_as_judged (products ys (counts_of (length ys) put) ++ map neg_ℤ (products ys (counts_of (length ys) taken)))
@@ -96,7 +96,7 @@ drop_next (x ∷ xs) (suc i) d within = drop_next xs i d (omega arith) ∙ (let 
 
 -- the check of the next instance decides, or the rest
 pub rows_decided : (flow at : ℕ) (ys : List ℤ) (system : NetSystem) (verdict : Check) (taken put : List Cell) (whole : Judged) → at < length system.instances
-    → verdict ≡ counts_check ys (counts_of (length ys) taken) (counts_of (length ys) put)
+    → verdict ≡ step_check ys (counts_of (length ys) taken) (counts_of (length ys) put)
     → taken ≡ (instance_at system at).pre → put ≡ (instance_at system at).post
     → whole ≡ judged_rows flow at (drop at (row_checks ys system.instances))
     → whole ≡ then_judged (Step flow at) verdict (judged_rows flow (at + 1) (drop (at + 1) (row_checks ys system.instances)))
@@ -104,8 +104,8 @@ rows_decided flow at ys system verdict taken put whole within is taken_is put_is
     let inside : at < length (row_checks ys system.instances) = omega (arith, length-map system.instances (instance_check ys)) in
     let here : get_or (row_checks ys system.instances) at verdict ≡ verdict =
     get_or-map (instance_check ys) system.instances at (record { transition = 0; binding = 0; pre = []; post = [] }) verdict within
-    ∙ sym (is ∙ ap (λ cells. counts_check ys (counts_of (length ys) cells) (counts_of (length ys) put)) taken_is
-    ∙ ap (λ cells. counts_check ys (counts_of (length ys) (instance_at system at).pre) (counts_of (length ys) cells)) put_is) in
+    ∙ sym (is ∙ ap (λ cells. step_check ys (counts_of (length ys) cells) (counts_of (length ys) put)) taken_is
+    ∙ ap (λ cells. step_check ys (counts_of (length ys) (instance_at system at).pre) (counts_of (length ys) cells)) put_is) in
     so_far
     ∙ ap (judged_rows flow at) (drop_next (row_checks ys system.instances) at verdict inside)
     ∙ ap (λ k. then_judged (Step flow at) k (judged_rows flow (at + 1) (drop (at + 1) (row_checks ys system.instances)))) here
@@ -133,10 +133,10 @@ instances_checked net system flow ys rows are long =
     let there : i < length net.transitions = omega (arith, rows.as_many) in
     let instance = rows.each i (get_or net.transitions i []) (get-is_Some net.transitions i [] there) in
     get_or-map (instance_check ys) system.instances i (record { transition = 0; binding = 0; pre = []; post = [] }) d inside
-    ∙ ap (λ n. counts_check ys (counts_of n (instance_at system i).pre) (counts_of n (instance_at system i).post)) long
-    ∙ ap (λ takes. counts_check ys takes (counts_of (length net.places) (instance_at system i).post)) instance.pre
-    ∙ ap (λ puts. counts_check ys (inputs net (get_or net.transitions i [])) puts) instance.post
-    ∙ ap (λ zs. counts_check zs (inputs net (get_or net.transitions i [])) (outputs net (get_or net.transitions i []))) are
+    ∙ ap (λ n. step_check ys (counts_of n (instance_at system i).pre) (counts_of n (instance_at system i).post)) long
+    ∙ ap (λ takes. step_check ys takes (counts_of (length net.places) (instance_at system i).post)) instance.pre
+    ∙ ap (λ puts. step_check ys (inputs net (get_or net.transitions i [])) puts) instance.post
+    ∙ ap (λ zs. step_check zs (inputs net (get_or net.transitions i [])) (outputs net (get_or net.transitions i []))) are
     ∙ sym (get_or-map (flow_check net flow) net.transitions i [] d there))
 
 -- the steps of the next flow decide, or the rest

@@ -4,8 +4,6 @@ use Rattle.wide_sums.specs.declared.rows.Cell.{Cell}
 use Rattle.plain_model.specs.declared.verdicts.Check.{Check}
 use Rattle.plain_model.specs.declared.verdicts.Check.TheVariants as check
 use Rattle.wide_sums.specs.Total.{Total, total_of}
-use Rattle.plain_model.specs.Sums.{sum_of, products}
-use Rattle.plain_model.specs.Obligations.{judged}
 
 -- a term, negated where it is taken
 abbrev pub signed : Bool → ℤ → ℤ
@@ -19,8 +17,8 @@ abbrev pub cell_terms : Bool → List ℤ → List Cell → List ℤ
 cell_terms is_taken coefficients cells = map (cell_term is_taken coefficients) cells
 
 -- what is put, and what is taken
-abbrev pub step_terms : List ℤ → List Cell → List Cell → List ℤ
-step_terms coefficients taken put = cell_terms false coefficients put ++ cell_terms true coefficients taken
+abbrev pub row_terms : List ℤ → List Cell → List Cell → List ℤ
+row_terms coefficients taken put = cell_terms false coefficients put ++ cell_terms true coefficients taken
 
 -- a weighted sum stays where its terms are in range and add up to 0
 abbrev pub keeps_total : Total → Check
@@ -28,10 +26,4 @@ keeps_total total = if nat_le (2 ^ 127) total.size then check.Wide else if nat_e
 
 -- a step over these rows keeps the weighted sum
 abbrev pub cells_check : List ℤ → List Cell → List Cell → Check
-cells_check coefficients taken put = keeps_total (total_of (step_terms coefficients taken put))
-
--- a step that takes and puts these counts keeps the weighted sum
-abbrev pub counts_check : List ℤ → List ℕ → List ℕ → Check
-counts_check coefficients takes puts =
-    judged ((products coefficients puts ++ map neg_ℤ (products coefficients takes)) ∷ [])
-    (nat_eq (unsigned_abs (sum_of (products coefficients puts ++ map neg_ℤ (products coefficients takes)))) 0)
+cells_check coefficients taken put = keeps_total (total_of (row_terms coefficients taken put))

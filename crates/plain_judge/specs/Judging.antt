@@ -10,8 +10,7 @@ use Rattle.plain_model.specs.declared.verdicts.Spot.{Spot}
 use Rattle.plain_model.specs.declared.verdicts.Spot.TheVariants.{Step}
 use Rattle.plain_model.specs.declared.verdicts.Judged.{Judged}
 use Rattle.plain_model.specs.declared.verdicts.Judged.TheVariants.{Shown, NotShown, Range}
-use Rattle.plain_model.specs.Obligations.{Obligation, flow_check, is_true, judged_by}
-use Rattle.plain_judge.specs.Cells.{counts_check}
+use Rattle.plain_model.specs.Obligations.{Obligation, step_check, flow_check, is_true, judged_by}
 use Rattle.pt_net.specs.Markings.{counts_of}
 
 -- what these obligations show, in order
@@ -31,7 +30,7 @@ judged_rows flow transition (first ∷ checks) = then_judged (Step flow transiti
 
 -- whether the instance keeps the weighted sum
 abbrev pub instance_check : List ℤ → Instance → Check
-instance_check coefficients t = counts_check coefficients (counts_of (length coefficients) t.pre) (counts_of (length coefficients) t.post)
+instance_check coefficients t = step_check coefficients (counts_of (length coefficients) t.pre) (counts_of (length coefficients) t.post)
 
 abbrev pub row_checks : List ℤ → List Instance → List Check
 row_checks coefficients instances = map (instance_check coefficients) instances

@@ -1,38 +1,11 @@
-//! Whether a property and a certificate are of the first grammar.
+//! Whether a certificate is of the first grammar.
 ghost use Rattle.std.specs.Prelude.{◌≡◌, length, vec_len, IfOk};
 
 use crate::faults::JudgeFault;
-use name_tables::{Ids, Name};
-use plain_model::{Certificate, Count, Flow, Multiplier, Property};
+use name_tables::Ids;
+use plain_model::{Certificate, Flow, Multiplier, Property};
 use std::alloc::Global;
 use wide_sums::Memory;
-
-/// The greatest count, weight and coefficient.
-const MOST: u64 = 9_223_372_036_854_775_807;
-
-/// Whether the counts of the property are of the first grammar: numbers up to 2^63 - 1, or one or
-/// more places of the net.
-pub fn is_plain_property(ids: &Ids, property: &Property) -> bool {
-    is_count(ids, &property.left) && is_count(ids, &property.right)
-}
-
-/// Whether a count is a number in range, or one or more places of the net.
-fn is_count(ids: &Ids, count: &Count) -> bool {
-    match count {
-        Count::Number(number) => *number <= MOST,
-        Count::Tokens(listed) => !listed.is_empty() && are_places(ids, listed.as_slice()),
-    }
-}
-
-/// Whether each name is that of a place.
-fn are_places(ids: &Ids, listed: &[Name]) -> bool {
-    for name in listed {
-        if ids.find(name.bytes()).is_none() {
-            return false;
-        }
-    }
-    true
-}
 
 /// A mark for each of so many things, none of them set.
 fn no_marks(alloc: Global, count: usize) -> Result<Vec<u32>, Memory>
@@ -113,10 +86,7 @@ pub fn examine(
     certificate: &Certificate,
     names: &Ids,
 ) -> Result<(), JudgeFault> {
-    if certificate.property != property.id
-        || !is_count(ids, &property.left)
-        || !is_count(ids, &property.right)
-    {
+    if certificate.property != property.id {
         return Err(JudgeFault::NotYet);
     }
     let mut places = no_marks(alloc, ids.count() as usize)?;

@@ -17,6 +17,5 @@ mod steps;
 #[cfg(test)]
 mod tests;
 
-pub use examining::is_plain_property;
 pub use faults::JudgeFault;
 pub use judging::judge;

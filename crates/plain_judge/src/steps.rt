@@ -2,7 +2,8 @@
 ghost use Rattle.std.specs.Prelude.{◌≡◌, ◌^◌, ◌≤◌, ◌<◌, length, OnOk, OnErr, IfOk, All, Bool, pos, ◌+◌, ◌*ℤ◌, unsigned_abs};
 ghost use Rattle.plain_model.specs.Sums.{sum_of};
 ghost use Rattle.wide_sums.specs.Total.{joined, total_of, with_term};
-ghost use Rattle.plain_judge.specs.Cells.{cell_terms, cell_term, cells_check, counts_check, signed, step_terms};
+ghost use Rattle.plain_judge.specs.Cells.{cell_terms, cell_term, cells_check, row_terms, signed};
+ghost use Rattle.plain_model.specs.Obligations.{step_check};
 ghost use Rattle.pt_net.specs.Markings.{IsInRange, counts_of};
 
 use plain_model::Check;
@@ -52,9 +53,9 @@ fn add_cells(
 fn total_of_cells(coefficients: &[i64], taken: &[Cell], put: &[Cell]) -> Result<i128, Wide>
     requires taken { All (λ c. c.at < length coefficients.now) taken.now }
     requires put { All (λ c. c.at < length coefficients.now) put.now }
-    ensures value { IfOk result (λ value. value ≡ sum_of (step_terms coefficients.now taken.now put.now)) }
-    ensures fits { OnOk result ((total_of (step_terms coefficients.now taken.now put.now)).size < 2 ^ 127) }
-    ensures wide { OnErr result (2 ^ 127 ≤ (total_of (step_terms coefficients.now taken.now put.now)).size) }
+    ensures value { IfOk result (λ value. value ≡ sum_of (row_terms coefficients.now taken.now put.now)) }
+    ensures fits { OnOk result ((total_of (row_terms coefficients.now taken.now put.now)).size < 2 ^ 127) }
+    ensures wide { OnErr result (2 ^ 127 ≤ (total_of (row_terms coefficients.now taken.now put.now)).size) }
 {
     let mut sum = Sum::zero();
     match add_cells(&mut sum, coefficients, put, false) {
@@ -85,7 +86,7 @@ fn check_cells(coefficients: &[i64], taken: &[Cell], put: &[Cell]) -> Check
 pub fn check_step(coefficients: &[i64], taken: &[Cell], put: &[Cell]) -> Check
     requires taken { IsInRange (length coefficients.now) taken.now }
     requires put { IsInRange (length coefficients.now) put.now }
-    ensures { result ≡ counts_check coefficients.now (counts_of (length coefficients.now) taken.now) (counts_of (length coefficients.now) put.now) }
+    ensures { result ≡ step_check coefficients.now (counts_of (length coefficients.now) taken.now) (counts_of (length coefficients.now) put.now) }
 {
     check_cells(coefficients, taken, put)
 }

@@ -12,7 +12,7 @@ use Rattle.plain_model.specs.declared.verdicts.Check.TheVariants as check
 use Rattle.plain_model.specs.Firing.{inputs, outputs, initial, Covers, moved, Fires, Run, Reach}
 use Rattle.plain_model.specs.Sums.{sum_of, is_wide, products}
 use Rattle.plain_model.specs.Forms.{Form, coefficients, value_at, flow_slack, flow_slack_of}
-use Rattle.plain_model.specs.Obligations.{judged, flow_terms, flow_check, is_true}
+use Rattle.plain_model.specs.Obligations.{judged, step_terms, flow_check, is_true}
 use Rattle.plain_model.proofs.Products.{mul_counts, sum_of-append, sum_of-neg, and_split}
 use Rattle.plain_model.proofs.Lists.{list_all-contains}
 
@@ -65,7 +65,7 @@ module _ (net : PlainNet) (flow : Flow) where
       let cs : List ℤ = coefficients net (flow_slack net flow) in
       let ins : List ℕ = inputs net transition in
       let outs : List ℕ = outputs net transition in
-      let zero_sum = abs_zero (sum_of (flow_terms net flow transition)) (judged_holds (flow_terms net flow transition ∷ []) (nat_eq (unsigned_abs (sum_of (flow_terms net flow transition))) 0) holds).1 in
+      let zero_sum = abs_zero (sum_of (step_terms (coefficients net (flow_slack net flow)) (inputs net transition) (outputs net transition))) (judged_holds (step_terms (coefficients net (flow_slack net flow)) (inputs net transition) (outputs net transition) ∷ []) (nat_eq (unsigned_abs (sum_of (step_terms (coefficients net (flow_slack net flow)) (inputs net transition) (outputs net transition)))) 0) holds).1 in
       let split = sum_of-append (products cs outs) (map neg_ℤ (products cs ins)) in
       let negated = sum_of-neg (products cs ins) in
       let same : length outs ≡ length ins = length-map net.places _ ∙ sym (length-map net.places _) in

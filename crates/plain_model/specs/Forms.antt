@@ -1,5 +1,5 @@
 -- Forms: a whole number per place and a constant. A slack form is one of a fact or a hypothesis
--- whose value is 0 (a flow) or at least 0 (a hypothesis) wherever that holds (Murata 1989, section V).
+-- whose value is 0 (a flow) or at least 0 (a hypothesis) wherever that holds (Murata 1989, S-invariants).
 use Rattle.std.specs.Prelude.{ℕ, ◌+◌, List, [], ◌∷◌, ◌++◌, map, bytes_eq, if◌then◌else◌, ℤ, pos, negsuc, ◌+ℤ◌, ◌-ℤ◌, neg_ℤ}
 use Rattle.plain_model.specs.declared.nets.PlainNet.{PlainNet}
 use Rattle.plain_model.specs.declared.properties.Property.{Property}

@@ -21,15 +21,17 @@ use Rattle.plain_model.specs.Forms.{Form, coefficients, flow_slack, slack_of, mu
 abbrev pub judged : List (List ℤ) → Bool → Check
 judged sums holds = if list_any is_wide sums then check.Wide else if holds then check.True else check.False
 
--- what firing the transition adds to the value of the flow, place by place
-abbrev pub flow_terms : PlainNet → Flow → List ℕ → List ℤ
-flow_terms net flow transition =
-    products (coefficients net (flow_slack net flow)) (outputs net transition)
-    ++ map neg_ℤ (products (coefficients net (flow_slack net flow)) (inputs net transition))
+-- what taking and putting these counts adds to a weighted sum, place by place
+abbrev pub step_terms : List ℤ → List ℕ → List ℕ → List ℤ
+step_terms ys takes puts = products ys puts ++ map neg_ℤ (products ys takes)
 
--- firing the transition keeps the value of the flow (Murata 1989, section V)
+-- taking and putting these counts keeps the weighted sum
+abbrev pub step_check : List ℤ → List ℕ → List ℕ → Check
+step_check ys takes puts = judged (step_terms ys takes puts ∷ []) (nat_eq (unsigned_abs (sum_of (step_terms ys takes puts))) 0)
+
+-- firing the transition keeps the value of the flow (Murata 1989, S-invariants)
 abbrev pub flow_check : PlainNet → Flow → List ℕ → Check
-flow_check net flow transition = judged (flow_terms net flow transition ∷ []) (nat_eq (unsigned_abs (sum_of (flow_terms net flow transition))) 0)
+flow_check net flow transition = step_check (coefficients net (flow_slack net flow)) (inputs net transition) (outputs net transition)
 
 -- one summand of `close`: a multiplier and a slack form
 pub record Part : Type 0 where

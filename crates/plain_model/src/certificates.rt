@@ -10,7 +10,7 @@ pub struct Weight {
     pub place: Name,
 }
 
-/// A claimed place flow: a weighted sum of tokens that no firing changes (Murata 1989, section V).
+/// A claimed place flow: a weighted sum of tokens that no firing changes (Murata 1989, S-invariants).
 #[derive(Debug, Drop)]
 pub struct Flow {
     /// The name by which `close` speaks of it.
