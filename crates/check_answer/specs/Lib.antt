@@ -1,0 +1,5 @@
+pub mod Outcomes
+pub mod Verdicts
+pub mod Answers
+pub mod Headline
+pub mod Lines

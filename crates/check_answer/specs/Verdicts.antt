@@ -1,0 +1,49 @@
+-- The verdict on the bytes of a net, a formula file and a certificate: an outcome, and the text that is written.
+use Rattle.std.specs.Prelude.{◌≡◌, ℕ, ◌⊎◌, List, [], ◌∷◌, ◌++◌, codes}
+use Rattle.plain_model.specs.declared.nets.PlainNet.{PlainNet}
+use Rattle.plain_model.specs.declared.properties.Property.{Property}
+use Rattle.plain_model.specs.declared.certificates.Certificate.{Certificate}
+use Rattle.plain_model.specs.Obligations.{judgement}
+use Rattle.plain_model.specs.Plain.{IsPlainNet}
+use Rattle.plain_model.specs.Report.{report}
+use Rattle.plain_text.specs.Nets.{net_text}
+use Rattle.plain_text.specs.Properties.{property_text}
+use Rattle.plain_text.specs.Certificates.{certificate_text}
+use Rattle.pnml_inputs.specs.Texts.{Texts}
+use Rattle.pnml_inputs.specs.declared.inputs.Role.{Role}
+use Rattle.pnml_inputs.specs.declared.inputs.Role.TheVariants.{Net, Formula, Cert}
+use Rattle.check_answer.specs.Outcomes.{outcome_of}
+use Rattle.check_answer.specs.declared.outcomes.Outcome.{Outcome}
+use Rattle.check_answer.specs.declared.outcomes.Outcome.TheVariants.{Refused}
+
+abbrev pub role_word : Role → List ℕ
+role_word Net = codes "net"
+role_word Formula = codes "formula"
+role_word Cert = codes "certificate"
+
+-- the line of a file that is refused, `refused ROLE WORD`
+abbrev pub refusal_line : Role → List ℕ → List ℕ
+refusal_line role word = codes "refused " ++ role_word role ++ 32 ∷ word ++ 10 ∷ []
+
+-- the three texts are those of a plain net, a property and a certificate for it, and these are judged
+pub record IsJudged (texts : Texts) (outcome : Outcome) (text : List ℕ) : Type 0 where
+  pub net : PlainNet
+  pub property : Property
+  pub certificate : Certificate
+  pub net_file : net_text net ≡ texts.net
+  pub formula_file : property_text property ≡ texts.formula
+  pub certificate_file : certificate_text certificate ≡ texts.certificate
+  pub plain : IsPlainNet net
+  pub named : certificate.property ≡ property.id
+  pub outcome_is : outcome ≡ outcome_of (judgement net property certificate)
+  pub text_is : text ≡ report net property certificate (judgement net property certificate)
+
+-- one of the files isn't taken yet. Which one, and where, stays free: it is the one answer that the definitions don't
+-- determine so far
+pub record IsNotYet (outcome : Outcome) (text : List ℕ) : Type 0 where
+  pub role : Role
+  pub outcome_is : outcome ≡ Refused
+  pub text_is : text ≡ refusal_line role (codes "not-yet")
+
+abbrev pub IsVerdict : Texts → Outcome → List ℕ → Type 0
+IsVerdict texts outcome text = IsJudged texts outcome text ⊎ IsNotYet outcome text

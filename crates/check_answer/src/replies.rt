@@ -1,0 +1,201 @@
+ghost use Rattle.std.specs.Prelude.{◌≡◌, ◌++◌, ◌∷◌, [], codes, IfOk, OnOk};
+ghost use Rattle.plain_model.specs.Obligations.{judgement};
+ghost use Rattle.plain_model.specs.Plain.{IsPlainNet};
+ghost use Rattle.plain_rows.specs.Rows.{AreRowsOf, IsLayoutOf};
+ghost use Rattle.plain_text.specs.Certificates.{certificate_text};
+ghost use Rattle.plain_text.specs.Nets.{net_text};
+ghost use Rattle.plain_text.specs.Properties.{property_text};
+ghost use Rattle.check_answer.specs.Outcomes.{IsFinal};
+ghost use Rattle.check_answer.specs.Verdicts.{IsJudged, IsNotYet, IsVerdict, refusal_line, role_word};
+
+use crate::outcomes::{Outcome, outcome_of};
+use crate::refusals::Refusal;
+use crate::report::{put, report_text};
+use host_io::{Gate, Phase};
+use name_tables::{Ids, Name};
+use plain_judge::judge;
+use plain_model::{Certificate, Count, Judged, PlainNet, Property};
+use plain_rows::{PlainRows, build};
+use plain_text::{read_certificate, read_net, read_property};
+use pnml_inputs::{Inputs, Role};
+use std::alloc::Global;
+use wide_sums::Memory;
+
+/// An outcome, and the whole text that is to be written for it.
+#[derive(Debug, Drop)]
+pub struct Reply {
+    /// How the command ends once the text is written.
+    pub outcome: Outcome,
+    /// The text.
+    pub text: Vec<u8>,
+}
+
+/// The word for a file in the line that refuses it.
+fn role_word(role: Role) -> &'static [u8]
+    ensures { result.now ≡ role_word role }
+{
+    match role {
+        Role::Net => b"net",
+        Role::Formula => b"formula",
+        Role::Cert => b"certificate",
+    }
+}
+
+/// The line `refused ROLE WORD`.
+fn refusal_text(alloc: Global, role: Role, word: &[u8]) -> Result<Vec<u8>, Memory>
+    ensures { IfOk result (λ text. text.items ≡ refusal_line role word.now) }
+{
+    let mut text = Vec::new(alloc);
+    put(&mut text, b"refused ")?;
+    put(&mut text, role_word(role))?;
+    put(&mut text, b" ")?;
+    put(&mut text, word)?;
+    put(&mut text, b"\n")?;
+    Ok(text)
+}
+
+/// The reply where this file is longer than the limit.
+pub fn too_long(alloc: Global, role: Role) -> Result<Reply, Memory>
+    ensures outcome { IfOk result (λ reply. reply.outcome ≡ Outcome.TooLong role) }
+    ensures text { IfOk result (λ reply. reply.text.items ≡ refusal_line role (codes "too-long")) }
+{
+    let text = refusal_text(alloc, role, b"too-long")?;
+    Ok(Reply {
+        outcome: Outcome::TooLong(role),
+        text,
+    })
+}
+
+/// The reply where this file isn't taken yet.
+fn not_yet(alloc: Global, role: Role) -> Result<Reply, Memory>
+    ensures is_final { IfOk result (λ reply. IsFinal reply.outcome) }
+    ensures line { IfOk result (λ reply. IsNotYet reply.outcome reply.text.items) }
+{
+    let text = refusal_text(alloc, role, b"not-yet")?;
+    Ok(Reply {
+        outcome: Outcome::Refused,
+        text,
+    })
+}
+
+/// The net of this file.
+fn net_of(alloc: Global, bytes: &[u8]) -> Result<PlainNet, Refusal>
+    ensures { IfOk result (λ net. net_text net ≡ bytes.now) }
+{
+    match read_net(alloc, bytes) {
+        Ok(net) => Ok(net),
+        Err(fault) => Err(Refusal::of_text(Role::Net, fault)),
+    }
+}
+
+/// The net by the numbers of its places and transitions, in one job.
+fn rows_of<G: Gate>(alloc: Global, net: &PlainNet, gate: &G) -> Result<PlainRows, Refusal>
+    ensures plain { OnOk result (IsPlainNet net.now) }
+    ensures layout { IfOk result (λ rows. IsLayoutOf net.now rows.layout) }
+    ensures rows { IfOk result (λ rows. AreRowsOf net.now rows.net) }
+{
+    gate.enter(Phase::Unfold, 0);
+    let rows = build(alloc, net)?;
+    Ok(rows)
+}
+
+/// Each place of the count has a number.
+fn is_known(places: &Ids, count: &Count) -> bool {
+    match count {
+        Count::Number(_) => true,
+        Count::Tokens(names) => are_known(places, names.as_slice()),
+    }
+}
+
+fn are_known(places: &Ids, names: &[Name]) -> bool {
+    for name in names {
+        if places.find(name.bytes()).is_none() {
+            return false;
+        }
+    }
+    true
+}
+
+/// The property of this file, whose places have numbers.
+fn property_of(alloc: Global, bytes: &[u8], places: &Ids) -> Result<Property, Refusal>
+    ensures { IfOk result (λ property. property_text property ≡ bytes.now) }
+{
+    match read_property(alloc, bytes) {
+        Ok(property) => {
+            if is_known(places, &property.left) && is_known(places, &property.right) {
+                Ok(property)
+            } else {
+                Err(Refusal::NotYet(Role::Formula))
+            }
+        }
+        Err(fault) => Err(Refusal::of_text(Role::Formula, fault)),
+    }
+}
+
+/// The certificate of this file, which is for the property with this id.
+fn certificate_for(alloc: Global, bytes: &[u8], property: &Name) -> Result<Certificate, Refusal>
+    ensures read { IfOk result (λ certificate. certificate_text certificate ≡ bytes.now) }
+    ensures named { IfOk result (λ certificate. certificate.property ≡ property.now) }
+{
+    match read_certificate(alloc, bytes) {
+        Ok(certificate) => {
+            if certificate.property.bytes() == property.bytes() {
+                Ok(certificate)
+            } else {
+                Err(Refusal::NotYet(Role::Cert))
+            }
+        }
+        Err(fault) => Err(Refusal::of_text(Role::Cert, fault)),
+    }
+}
+
+/// What the obligations show, in one job.
+fn judgement_of<G: Gate>(
+    alloc: Global,
+    net: &PlainNet,
+    rows: &PlainRows,
+    property: &Property,
+    certificate: &Certificate,
+    gate: &G,
+) -> Result<Judged, Refusal>
+    requires plain { IsPlainNet net.now }
+    requires layout { IsLayoutOf net.now rows.now.layout }
+    requires rows { AreRowsOf net.now rows.now.net }
+    ensures { IfOk result (λ judged. judged ≡ judgement net.now property.now certificate.now) }
+{
+    gate.enter(Phase::Judge, 0);
+    let judged = judge(alloc, net, rows, property, certificate)?;
+    Ok(judged)
+}
+
+/// The report on the three texts. The first that isn't taken yet, in their order, is refused.
+fn judged_reply<G: Gate>(alloc: Global, inputs: &Inputs, gate: &G) -> Result<Reply, Refusal>
+    ensures is_final { IfOk result (λ reply. IsFinal reply.outcome) }
+    ensures judged { IfOk result (λ reply. IsJudged inputs.now reply.outcome reply.text.items) }
+{
+    let net = net_of(alloc, inputs.net())?;
+    let rows = rows_of(alloc, &net, gate)?;
+    let property = property_of(alloc, inputs.formula(), rows.layout.places())?;
+    let certificate = certificate_for(alloc, inputs.certificate(), &property.id)?;
+    let judged = judgement_of(alloc, &net, &rows, &property, &certificate, gate)?;
+    let text = report_text(alloc, &net, &property, &certificate, &judged)?;
+    Ok(Reply {
+        outcome: outcome_of(&judged),
+        text,
+    })
+}
+
+/// The reply to three texts: the report, or the line `refused ROLE not-yet` for the first of them
+/// that isn't taken yet. [`Memory`] comes for want of memory.
+///
+/// The gate is passed as the net is numbered, and as the obligations are judged.
+pub fn verdict<G: Gate>(alloc: Global, inputs: &Inputs, gate: &G) -> Result<Reply, Memory>
+    ensures is_final { IfOk result (λ reply. IsFinal reply.outcome) }
+    ensures verdict { IfOk result (λ reply. IsVerdict inputs.now reply.outcome reply.text.items) }
+{
+    match judged_reply(alloc, inputs, gate) {
+        Ok(reply) => Ok(reply),
+        Err(Refusal::NotYet(role)) => not_yet(alloc, role),
+        Err(Refusal::Memory) => Err(Memory),
+    }
+}
