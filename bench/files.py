@@ -1,0 +1,91 @@
+#!/usr/bin/env python3
+"""Time and peak memory of `check` on rings whose three files are 1, 8 and 64 MiB each.
+
+    bench/files.py PROGRAM [SIZE ..]
+
+PROGRAM is the built program (crates/pnml_cli/out/pnml_cli once `rt ci` or ./trussoregano has built
+it), SIZE a number of MiB. The files are made in a temporary folder. One token goes round a ring of
+places; the property adds up all places as often as its file has room, and the certificate has one
+flow over all places after the other. Each run has to print `holds`. Beside it stands the time that
+reading the three files alone takes.
+"""
+import os
+import subprocess
+import sys
+import tempfile
+import time
+
+MIB = 1 << 20
+LIMIT = 64 * MIB
+FIRST = b'<?xml version="1.0" encoding="UTF-8"?>\n'
+
+
+def net_text(size):
+    """A ring of as many places as fit, and how many they are."""
+    head = (FIRST + b'<pnml xmlns="http://www.pnml.org/version-2009/grammar/pnml">\n'
+            b'<net id="n" type="http://www.pnml.org/version-2009/grammar/ptnet">\n<page id="page">\n')
+    tail = b"</page>\n</net>\n</pnml>\n"
+    first = b'<place id="p1000000">\n<initialMarking>\n<text>1</text>\n</initialMarking>\n</place>\n'
+    each = 24 + 29 + 56 + 56
+    count = (size - len(head) - len(tail) - len(first)) // each
+    places = first + b"".join(b'<place id="p%d"/>\n' % (1000000 + k) for k in range(1, count))
+    transitions = b"".join(b'<transition id="t%d"/>\n' % (1000000 + k) for k in range(count))
+    arcs = b"".join(
+        b'<arc id="a%d" source="p%d" target="t%d"/>\n<arc id="b%d" source="t%d" target="p%d"/>\n'
+        % (1000000 + k, 1000000 + k, 1000000 + k, 1000000 + k, 1000000 + k, 1000000 + (k + 1) % count)
+        for k in range(count))
+    return head + places + transitions + arcs + tail, count
+
+
+def formula_text(size, count):
+    """The places, all of them again and again, against how often that is."""
+    body = b"".join(b"<place>p%d</place>\n" % (1000000 + k) for k in range(count))
+    times = max(1, (size - 400) // len(body))
+    return (FIRST + b"<property-set>\n<property>\n<id>P</id>\n<formula>\n<all-paths>\n<globally>\n<integer-le>\n"
+            b"<tokens-count>\n" + body * times + b"</tokens-count>\n<integer-constant>%d</integer-constant>\n" % times
+            + b"</integer-le>\n</globally>\n</all-paths>\n</formula>\n</property>\n</property-set>\n"), times
+
+
+def certificate_text(size, count, times):
+    """One flow over all places after the other; the last one refutes the property."""
+    weights = b"".join(b" 1*p%d" % (1000000 + k) for k in range(count))
+    flows = max(1, (size - 100) // (len(weights) + 12))
+    return (b"certificate 1\nproperty P\n" + b"".join(b"flow f%d%s\n" % (k, weights) for k in range(flows))
+            + b"proof\nclose 1*@1 -%d*f%d\nend\n" % (times, flows - 1))
+
+
+def measured(words):
+    """Output, seconds and peak memory in MiB of one run."""
+    started = time.monotonic()
+    child = subprocess.Popen(words, stdout=subprocess.PIPE)
+    output = child.stdout.read()
+    _, status, usage = os.wait4(child.pid, 0)
+    child.returncode = os.waitstatus_to_exitcode(status)
+    return output, time.monotonic() - started, usage.ru_maxrss / 1024
+
+
+def main():
+    program = os.path.abspath(sys.argv[1])
+    sizes = [int(word) for word in sys.argv[2:]] or [1, 8, 64]
+    print("MiB each  places  flows  seconds  of reading alone  peak MiB")
+    for size in sizes:
+        with tempfile.TemporaryDirectory() as folder:
+            net, count = net_text(min(size * MIB, LIMIT))
+            formula, times = formula_text(size * MIB, count)
+            certificate = certificate_text(size * MIB, count, times)
+            flows = certificate.count(b"\nflow ")
+            names = []
+            for name, text in (("net", net), ("formula", formula), ("certificate", certificate)):
+                names.append(os.path.join(folder, name))
+                with open(names[-1], "wb") as file:
+                    file.write(text)
+            del net, formula, certificate
+            _, reading, _ = measured(["cat"] + names)
+            output, seconds, peak = measured([program, "check"] + names)
+            if not output.startswith(b"holds\n"):
+                print(f"{size}: {output[:200]!r}")
+                sys.exit(1)
+            print(f"{size:8d}  {count:6d}  {flows:5d}  {seconds:7.2f}  {reading:16.2f}  {peak:8.0f}", flush=True)
+
+
+main()
