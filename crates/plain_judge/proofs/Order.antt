@@ -1,9 +1,12 @@
 -- Laws of obligations judged in order.
-use Rattle.std.proofs.Common.{◌≡◌, ℕ, zero, suc, ◌+◌, ◌^◌, ◌<◌, Bool, true, false, cond, ◌||◌, List, [], ◌∷◌, ◌++◌, map, length, get_or, drop, ℤ, neg_ℤ, refl, sym, ◌∙◌, ap, subst, arith, nat_eq, nat_le, Some}
-use Rattle.std.specs.Prelude.{flat_map, unsigned_abs, slice_get}
+use Rattle.std.proofs.Common.{◌≡◌, ℕ, ◌+◌, ◌^◌, ◌<◌, Bool, true, false, cond, ◌||◌, List, [], ◌∷◌, ◌++◌, map, length, get_or, drop, ℤ, neg_ℤ, refl, sym, ◌∙◌, ap, subst, arith, nat_eq, nat_le}
+use Rattle.std.specs.Prelude.{flat_map, unsigned_abs}
 use Rattle.std.specs.List.{enumerate_from}
 use Rattle.std.proofs.lemmas.Simd.{map-map}
-use Rattle.std.proofs.lemmas.List.{length-append, length-map}
+use Rattle.std.proofs.lemmas.List.{ext_get_or, get_or-map, get_or_append_left, length-append, length-map}
+use Rattle.std.proofs.lemmas.Option.{slice_get-get_or}
+use Rattle.std.proofs.Math.Seq.{drop-cons}
+use Rattle.std.proofs.Math.Numerals.{add-one}
 use Rattle.wide_sums.specs.Total.{total_of}
 use Rattle.pt_net.specs.Markings.{counts_of, IsInRange}
 use Rattle.pt_net.specs.Systems.{NetSystem, instance_at}
@@ -25,7 +28,6 @@ use Rattle.plain_model.specs.Forms.{coefficients, flow_slack}
 use Rattle.plain_model.specs.Obligations.{Obligation, close_check, flow_check, judgement, judged, step_check}
 use Rattle.plain_judge.specs.Cells.{cells_check, keeps_total}
 use Rattle.plain_judge.proofs.Dense.{cells_check-dense}
-use Rattle.plain_judge.proofs.Residues.{get_or-map}
 use Rattle.plain_model.specs.Forms.{weight_on}
 use Rattle.plain_model.specs.Plain.{AreDistinct, IsPlainNet, place_ids}
 use Rattle.plain_rows.specs.Rows.{AreRowsOf}
@@ -90,9 +92,7 @@ cells_check-counts ys taken put taken_within put_within =
     ∙ keeps_as_judged (products ys (counts_of (length ys) put) ++ map neg_ℤ (products ys (counts_of (length ys) taken)))
 
 drop_next : {X : Type 0} (xs : List X) (i : ℕ) (d : X) → i < length xs → drop i xs ≡ get_or xs i d ∷ drop (i + 1) xs
-drop_next [] i d within = absurd (omega arith)
-drop_next (x ∷ xs) zero d within = refl
-drop_next (x ∷ xs) (suc i) d within = drop_next xs i d (omega arith) ∙ (let same : suc (i + 1) ≡ suc i + 1 = omega arith in ap (λ n. get_or xs i d ∷ drop n (x ∷ xs)) same)
+drop_next xs i d within = rw add-one (drop-cons xs i d within)
 
 -- the check of the next instance decides, or the rest
 pub rows_decided : (flow at : ℕ) (ys : List ℤ) (system : NetSystem) (verdict : Check) (taken put : List Cell) (whole : Judged) → at < length system.instances
@@ -110,34 +110,22 @@ rows_decided flow at ys system verdict taken put whole within is taken_is put_is
     ∙ ap (judged_rows flow at) (drop_next (row_checks ys system.instances) at verdict inside)
     ∙ ap (λ k. then_judged (Step flow at) k (judged_rows flow (at + 1) (drop (at + 1) (row_checks ys system.instances)))) here
 
-same_lists : {X : Type 0} (xs ys : List X) → length xs ≡ length ys → ((i : ℕ) (d : X) → i < length xs → get_or xs i d ≡ get_or ys i d) → xs ≡ ys
-same_lists [] [] long each = refl
-same_lists [] (y ∷ ys) long each = absurd (omega arith)
-same_lists (x ∷ xs) [] long each = absurd (omega arith)
-same_lists (x ∷ xs) (y ∷ ys) long each =
-    ap (λ z. z ∷ xs) (each 0 x (omega arith)) ∙ ap (λ zs. y ∷ zs) (same_lists xs ys (omega arith) (λ i d within. each (suc i) d (omega arith)))
-
-get-is_Some : {X : Type 0} (xs : List X) (i : ℕ) (d : X) → i < length xs → slice_get xs i ≡ Some (get_or xs i d)
-get-is_Some [] i d within = absurd (omega arith)
-get-is_Some (x ∷ xs) zero d within = refl
-get-is_Some (x ∷ xs) (suc i) d within = get-is_Some xs i d (omega arith)
-
 -- the instances are checked as the transitions of the file
 instances_checked : (net : PlainNet) (system : NetSystem) (flow : Flow) (ys : List ℤ) → AreRowsOf net system → ys ≡ coefficients net (flow_slack net flow) → length ys ≡ length net.places
     → row_checks ys system.instances ≡ map (flow_check net flow) net.transitions
 instances_checked net system flow ys rows are long =
-    same_lists (row_checks ys system.instances) (map (flow_check net flow) net.transitions)
+    ext_get_or check.True (row_checks ys system.instances) (map (flow_check net flow) net.transitions)
     (length-map system.instances (instance_check ys) ∙ rows.as_many ∙ sym (length-map net.transitions (flow_check net flow)))
-    (λ i d within.
+    (λ i within.
     let inside : i < length system.instances = omega (arith, length-map system.instances (instance_check ys)) in
     let there : i < length net.transitions = omega (arith, rows.as_many) in
-    let instance = rows.each i (get_or net.transitions i []) (get-is_Some net.transitions i [] there) in
-    get_or-map (instance_check ys) system.instances i (record { transition = 0; binding = 0; pre = []; post = [] }) d inside
+    let instance = rows.each i (get_or net.transitions i []) (slice_get-get_or net.transitions i [] there) in
+    get_or-map (instance_check ys) system.instances i (record { transition = 0; binding = 0; pre = []; post = [] }) check.True inside
     ∙ ap (λ n. step_check ys (counts_of n (instance_at system i).pre) (counts_of n (instance_at system i).post)) long
     ∙ ap (λ takes. step_check ys takes (counts_of (length net.places) (instance_at system i).post)) instance.pre
     ∙ ap (λ puts. step_check ys (inputs net (get_or net.transitions i [])) puts) instance.post
     ∙ ap (λ zs. step_check zs (inputs net (get_or net.transitions i [])) (outputs net (get_or net.transitions i []))) are
-    ∙ sym (get_or-map (flow_check net flow) net.transitions i [] d there))
+    ∙ sym (get_or-map (flow_check net flow) net.transitions i [] check.True there))
 
 -- the steps of the next flow decide, or the rest
 pub flows_decided : (net : PlainNet) (system : NetSystem) (ids : List (List ℕ)) (flows : List Flow) (at : ℕ) (d : Flow) (ys : List ℤ) (verdict whole : Judged) → at < length flows
@@ -164,14 +152,9 @@ judgement_after net property certificate first is =
     ∙ ap (λ j. or_else (flows_judged net certificate.flows) j) (all_judged-first Close (close_check net property certificate) [])
     ∙ ap (λ j. or_else j (then_judged Close (close_check net property certificate) Shown)) (sym is)
 
-front_of : {X : Type 0} (xs ys : List X) (i : ℕ) (d : X) → i < length xs → get_or (xs ++ ys) i d ≡ get_or xs i d
-front_of [] ys i d within = absurd (omega arith)
-front_of (x ∷ xs) ys zero d within = refl
-front_of (x ∷ xs) ys (suc i) d within = front_of xs ys i d (omega arith)
-
 distinct_front : (xs ys : List (List ℕ)) → AreDistinct (xs ++ ys) → AreDistinct xs
 distinct_front xs ys distinct i j d below within =
-    λ same. distinct i j d below (omega (arith, length-append xs ys)) (front_of xs ys i d (omega arith) ∙ same ∙ sym (front_of xs ys j d within))
+    λ same. distinct i j d below (omega (arith, length-append xs ys)) (get_or_append_left xs ys d i (omega arith) ∙ same ∙ sym (get_or_append_left xs ys d j within))
 
 -- the ids of the places of a plain net are distinct
 pub distinct_places : (net : PlainNet) (ids : List (List ℕ)) → IsPlainNet net → ids ≡ place_ids net → AreDistinct ids

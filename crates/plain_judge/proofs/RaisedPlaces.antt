@@ -9,7 +9,7 @@ use Rattle.name_tables.specs.Numbering.{number_in}
 use Rattle.plain_model.specs.declared.certificates.Weight.{Weight}
 use Rattle.plain_model.specs.Forms.{weight_on, times_in}
 use Rattle.plain_model.specs.Plain.{AreDistinct}
-use Rattle.plain_model.proofs.Products.{mul_counts}
+use Rattle.plain_model.proofs.Products.{mul_counts, mul_zero}
 use Rattle.plain_judge.specs.Coefficients.{raised, Raises}
 
 -- a name and the one at its number are the same
@@ -100,11 +100,7 @@ one_more_time value times true = mul_counts value times 1 ∙ ap (λ z. (value *
     times_one : (value : ℤ) → value *ℤ pos 1 ≡ value
     times_one (pos n) = omega (arith, ints)
     times_one (negsuc n) = omega (arith, ints)
-one_more_time value times false = mul_counts value times 0 ∙ ap (λ z. (value *ℤ pos times) +ℤ z) (times_none value)
-  where
-    times_none : (value : ℤ) → value *ℤ pos 0 ≡ pos 0
-    times_none (pos n) = omega (arith, ints)
-    times_none (negsuc n) = omega (arith, ints)
+one_more_time value times false = mul_counts value times 0 ∙ ap (λ z. (value *ℤ pos times) +ℤ z) (mul_zero value)
 
 -- listing one place more
 pub listed_more : (value : ℤ) (listed : List (List ℕ)) (i : ℕ) (name : List ℕ) (id : List ℕ) → i < length listed → get_or listed i name ≡ name

@@ -2,9 +2,10 @@
 use Rattle.std.proofs.Common.{◌≡◌, ℕ, zero, suc, ◌+◌, ◌^◌, ◌<◌, ◌≤◌, Bool, true, false, cond, ◌||◌, ◌&&◌, List, [], ◌∷◌, ◌++◌, map, length, get_or, take, ℤ, pos, ◌*ℤ◌, refl, sym, ◌∙◌, ap, subst, arith}
 use Rattle.std.specs.Prelude.{int_le, int_lt}
 use Rattle.std.specs.List.{list_all, list_any}
+use Rattle.std.proofs.lemmas.List.Folds.{list_any-append}
 use Rattle.std.proofs.lemmas.Simd.{map-map}
 use Rattle.std.proofs.lemmas.Bool.Decides.{nat_tests}
-use Rattle.std.proofs.lemmas.List.{map-append, take-map, take_more, length-map}
+use Rattle.std.proofs.lemmas.List.{get_or-map, map-append, take-map, take_more, length-map}
 use Rattle.wide_sums.specs.Total.{Total, zero_total, with_term, total_of}
 use Rattle.wide_sums.proofs.Totals.{total_of_push, size_take-le}
 use Rattle.plain_model.specs.declared.nets.PlainNet.{PlainNet}
@@ -38,14 +39,6 @@ coefficient-push ps part id = map-append (λ (p : Part). p.multiplier *ℤ p.sla
 constant-push : (ps : List Part) (part : Part) → residual_constant (ps ++ part ∷ []) ≡ residual_constant ps ++ (part.multiplier *ℤ sum_of part.slack.constant) ∷ []
 constant-push ps part = map-append (λ (p : Part). p.multiplier *ℤ sum_of p.slack.constant) ps (part ∷ [])
 
-list_any-append : {X : Type 0} (p : X → Bool) (xs ys : List X) → list_any p (xs ++ ys) ≡ (list_any p xs || list_any p ys)
-list_any-append p [] ys = refl
-list_any-append p (x ∷ xs) ys = ap (λ b. p x || b) (list_any-append p xs ys) ∙ regroup (p x) (list_any p xs) (list_any p ys)
-  where
-    regroup : (a b c : Bool) → (a || (b || c)) ≡ ((a || b) || c)
-    regroup true b c = refl
-    regroup false b c = refl
-
 or_true : (a b : Bool) → b ≡ true → (a || b) ≡ true
 or_true true b h = refl
 or_true false b h = h
@@ -62,11 +55,6 @@ list_any-at : {X : Type 0} (p : X → Bool) (xs : List X) (i : ℕ) (d : X) → 
 list_any-at p [] i d within h = absurd (omega arith)
 list_any-at p (x ∷ xs) zero d within h = true_or (p x) (list_any p xs) h
 list_any-at p (x ∷ xs) (suc i) d within h = or_true (p x) (list_any p xs) (list_any-at p xs i d (omega arith) h)
-
-pub get_or-map : {X Y : Type 0} (f : X → Y) (xs : List X) (i : ℕ) (d : X) (e : Y) → i < length xs → get_or (map f xs) i e ≡ f (get_or xs i d)
-get_or-map f [] i d e within = absurd (omega arith)
-get_or-map f (x ∷ xs) zero d e within = refl
-get_or-map f (x ∷ xs) (suc i) d e within = get_or-map f xs i d e (omega arith)
 
 is_wide-true : (terms : List ℤ) → 2 ^ 127 ≤ (total_of terms).size → is_wide terms ≡ true
 is_wide-true terms h = grind (arith, nat_tests)

@@ -1,5 +1,6 @@
 -- Laws of the sums of a residual.
 use Rattle.std.proofs.Common.{◌≡◌, ◌≢◌, ℕ, zero, suc, ◌+◌, ◌^◌, ◌<◌, ◌≤◌, List, [], ◌∷◌, map, ℤ, pos, ◌*ℤ◌, neg_ℤ, refl, sym, ◌∙◌, ap, subst, arith, take, length, get_or, set, get_or-set_same, get_or-set_other, ◌⊎◌, inl, inr}
+use Rattle.std.proofs.lemmas.List.{take_all}
 use Rattle.wide_sums.specs.Total.{Total, zero_total, with_term, total_of}
 use Rattle.wide_sums.proofs.Totals.{total_of_more, size_take-le}
 use Rattle.plain_model.specs.declared.nets.Place.{Place}
@@ -45,13 +46,7 @@ constant_wide ys places i place now bound same within so_far wide =
 pub constant_whole : (ys : List ℤ) (places : List Place) (i : ℕ) (now : Total) → length ys ≡ length places → i ≡ length places
     → now ≡ total_of (take i (map neg_ℤ (products ys (markings places)))) → now ≡ total_of (map neg_ℤ (products ys (markings places)))
 constant_whole ys places i now same end so_far =
-    so_far ∙ ap total_of (take_all (map neg_ℤ (products ys (markings places))) i (end ∙ sym (length-products ys places same)))
-  where
-    take_all : (xs : List ℤ) (i : ℕ) → i ≡ length xs → take i xs ≡ xs
-    take_all [] zero e = refl
-    take_all [] (suc i) e = refl
-    take_all (x ∷ xs) zero e = absurd (omega arith)
-    take_all (x ∷ xs) (suc i) e = ap (λ ys. x ∷ ys) (take_all xs i (omega arith))
+    so_far ∙ ap total_of (take_all i (map neg_ℤ (products ys (markings places))) (omega (arith, end, length-products ys places same)))
 
 below_or_here : (p i : ℕ) → p < i + 1 → (p < i) ⊎ (p ≡ i)
 below_or_here p i h = grind arith
@@ -71,11 +66,6 @@ pub rest_stays : (old now : List Total) (i : ℕ) (sum : Total)
     → ((p : ℕ) → i ≤ p → get_or now p zero_total ≡ get_or old p zero_total)
     → (p : ℕ) → i + 1 ≤ p → get_or (set now i sum) p zero_total ≡ get_or old p zero_total
 rest_stays old now i sum before p above = let other : p ≢ i = omega arith in rw get_or-set_other (before p (omega arith))
-
-pub any_default : {X : Type 0} (xs : List X) (i : ℕ) (d e : X) → i < length xs → get_or xs i d ≡ get_or xs i e
-any_default [] i d e within = absurd (omega arith)
-any_default (x ∷ xs) zero d e within = refl
-any_default (x ∷ xs) (suc i) d e within = any_default xs i d e (omega arith)
 
 -- one sum more is in range
 pub fits_more : (multiplier : ℤ) (ys : List ℤ) (old : List Total) (i : ℕ)

@@ -1,5 +1,5 @@
 -- The terms of an obligation over sparse rows.
-use Rattle.std.specs.Prelude.{ℕ, List, [], ◌∷◌, ◌++◌, map, Bool, true, false, nat_eq, nat_le, ◌^◌, if◌then◌else◌, ℤ, pos, ◌*ℤ◌, neg_ℤ, unsigned_abs, slice_index_or}
+use Rattle.std.specs.Prelude.{List, ◌++◌, map, Bool, true, false, nat_eq, nat_le, ◌^◌, if◌then◌else◌, ℤ, pos, ◌*ℤ◌, neg_ℤ, unsigned_abs, slice_index_or}
 use Rattle.wide_sums.specs.declared.rows.Cell.{Cell}
 use Rattle.plain_model.specs.declared.verdicts.Check.{Check}
 use Rattle.plain_model.specs.declared.verdicts.Check.TheVariants as check

@@ -6,14 +6,13 @@ use Rattle.std.proofs.lemmas.Int.{ints}
 use Rattle.std.proofs.lemmas.List.{length-map}
 use Rattle.std.proofs.lemmas.Bool.Decides.{nat_tests}
 use Rattle.plain_model.specs.declared.nets.PlainNet.{PlainNet}
-use Rattle.plain_model.specs.declared.nets.Place.{Place}
 use Rattle.plain_model.specs.declared.certificates.Flow.{Flow}
 use Rattle.plain_model.specs.declared.verdicts.Check.TheVariants as check
 use Rattle.plain_model.specs.Firing.{inputs, outputs, initial, Covers, moved, Fires, Run, Reach}
 use Rattle.plain_model.specs.Sums.{sum_of, is_wide, products}
 use Rattle.plain_model.specs.Forms.{Form, coefficients, value_at, flow_slack, flow_slack_of}
 use Rattle.plain_model.specs.Obligations.{judged, step_terms, flow_check, is_true}
-use Rattle.plain_model.proofs.Products.{mul_counts, sum_of-append, sum_of-neg, and_split}
+use Rattle.plain_model.proofs.Products.{mul_counts, sum_of-append, sum_of-neg, and_split, products-zero}
 use Rattle.plain_model.proofs.Lists.{list_all-contains}
 
 -- one place: a count without what is taken and with what is put
@@ -87,13 +86,6 @@ module _ (net : PlainNet) (flow : Flow) where
       let negated = sum_of-neg (products (coefficients net (flow_slack net flow)) (initial net)) in
       omega (arith, ints, kept, negated)
 
-zero_sum : (places : List Place) (marking : List ℕ) → sum_of (products (map (λ place. pos 0) places) marking) ≡ pos 0
-zero_sum [] marking = refl
-zero_sum (place ∷ places) [] = refl
-zero_sum (place ∷ places) (count ∷ marking) =
-    let none : pos 0 *ℤ pos count ≡ pos 0 = omega (arith, ints) in
-    omega (arith, ints, none, zero_sum places marking)
-
 chosen_value : (net : PlainNet) (marking : List ℕ) (b : Bool) (x y : Form) → value_at net x marking ≡ pos 0 → value_at net y marking ≡ pos 0 → value_at net (cond b x y) marking ≡ pos 0
 chosen_value net marking true x y p q = p
 chosen_value net marking false x y p q = q
@@ -102,7 +94,7 @@ chosen_value net marking false x y p q = q
 pub named_slack_is_zero : (net : PlainNet) (flows : List Flow) (name marking : List ℕ)
     → list_all (λ flow. list_all (λ t. is_true (flow_check net flow t)) net.transitions) flows ≡ true → Reach net marking
     → value_at net (flow_slack_of net flows name) marking ≡ pos 0
-named_slack_is_zero net [] name marking holds reach = omega (arith, ints, zero_sum net.places marking)
+named_slack_is_zero net [] name marking holds reach = omega (arith, ints, products-zero net.places marking)
 named_slack_is_zero net (flow ∷ flows) name marking holds reach =
     let parts = and_split (list_all (λ t. is_true (flow_check net flow t)) net.transitions) (list_all (λ f. list_all (λ t. is_true (flow_check net f t)) net.transitions) flows) holds in
     chosen_value net marking (bytes_eq name flow.name) (flow_slack net flow) (flow_slack_of net flows name)

@@ -1,5 +1,5 @@
 -- Laws of tests over lists, and of the first obligation that isn't true.
-use Rattle.std.proofs.Common.{◌≡◌, ℕ, zero, suc, ◌+◌, Bool, true, not, ◌&&◌, List, [], ◌∷◌, ◌++◌, map, refl, ap, subst, arith}
+use Rattle.std.proofs.Common.{◌≡◌, ℕ, zero, suc, ◌+◌, Bool, true, not, ◌&&◌, List, [], ◌∷◌, ◌++◌, refl, ap, subst, arith}
 use Rattle.std.specs.Prelude.{Contains, find, flat_map}
 use Rattle.std.specs.List.{list_all, enumerate_from}
 use Rattle.plain_model.specs.declared.verdicts.Check.{Check}
@@ -15,10 +15,6 @@ list_all-append p (x ∷ xs) ys h =
     let parts = and_split (p x) (list_all p (xs ++ ys)) h in
     let rest = list_all-append p xs ys parts.1 in
     (rw parts.0 rest.0, rest.1)
-
-pub list_all-map : {X Y : Type 0} (p : Y → Bool) (f : X → Y) (xs : List X) → list_all p (map f xs) ≡ list_all (λ x. p (f x)) xs
-list_all-map p f [] = refl
-list_all-map p f (x ∷ xs) = ap (λ b. p (f x) && b) (list_all-map p f xs)
 
 pub list_all-flat_map : {X Y : Type 0} (p : Y → Bool) (f : X → List Y) (xs : List X) → list_all p (flat_map f xs) ≡ true → list_all (λ x. list_all p (f x)) xs ≡ true
 list_all-flat_map p f [] h = refl

@@ -44,7 +44,8 @@ up_from k n = omega (arith, ints, suc_is (k +ℤ pos n))
 down_from : (k : ℤ) (n : ℕ) → k +ℤ negsuc (suc n) ≡ pred_ℤ (k +ℤ negsuc n)
 down_from k n = omega (arith, ints, pred_is (k +ℤ negsuc n))
 
-mul_zero : (m : ℤ) → m *ℤ pos 0 ≡ pos 0
+-- a product with no count
+pub mul_zero : (m : ℤ) → m *ℤ pos 0 ≡ pos 0
 mul_zero (pos a) = omega (arith, ints)
 mul_zero (negsuc a) = omega (arith, ints)
 
@@ -124,3 +125,11 @@ products-not_above (y ∷ ys) [] h = refl
 products-not_above (y ∷ ys) (n ∷ ns) h =
     let parts = and_split (int_le y (pos 0)) (list_all (λ z. int_le z (pos 0)) ys) h in
     add_not_above (sum_of (products ys ns)) (y *ℤ pos n) (products-not_above ys ns parts.1) (not_above y n parts.0)
+
+-- coefficients that are all 0
+pub products-zero : {X : Type 0} (xs : List X) (ns : List ℕ) → sum_of (products (map (λ x. pos 0) xs) ns) ≡ pos 0
+products-zero [] ns = refl
+products-zero (x ∷ xs) [] = refl
+products-zero (x ∷ xs) (n ∷ ns) =
+    let none : pos 0 *ℤ pos n ≡ pos 0 = omega (arith, ints) in
+    omega (arith, ints, none, products-zero xs ns)

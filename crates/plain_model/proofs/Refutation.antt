@@ -16,7 +16,7 @@ use Rattle.plain_model.specs.Satisfaction.{tokens_on, tokens_on_all, value_of}
 use Rattle.plain_model.specs.Sums.{sum_of, products}
 use Rattle.plain_model.specs.Forms.{coefficients, value_at, times_in, times_listed, numbers, hypothesis_slack, slack_of, multiplier_of, flow_slack_of}
 use Rattle.plain_model.specs.Obligations.{Part, residual_coefficient, residual_constant, is_refuted, is_signed_well}
-use Rattle.plain_model.proofs.Products.{mul_add, add_mul, mul_mul, sum_of-append, sum_of-neg, and_split, products-not_above}
+use Rattle.plain_model.proofs.Products.{mul_add, add_mul, mul_mul, sum_of-append, sum_of-neg, and_split, products-not_above, mul_zero, products-zero}
 
 -- the tokens on the places, each times a number for its id
 abbrev weighed : (List ℕ → ℕ) → List Place → List ℕ → ℕ
@@ -87,16 +87,8 @@ combined net (part ∷ ps) marking = combined net ps marking +ℤ (part.multipli
 add_column : (v : ℤ) (first second : List ℕ → ℤ) (places : List Place) (marking : List ℕ)
     → sum_of (products (map (λ place. first place.id +ℤ (v *ℤ second place.id)) places) marking)
     ≡ sum_of (products (map (λ place. first place.id) places) marking) +ℤ (v *ℤ sum_of (products (map (λ place. second place.id) places) marking))
-add_column v first second [] marking = omega (arith, ints, zero_times v)
-  where
-    zero_times : (v : ℤ) → v *ℤ pos 0 ≡ pos 0
-    zero_times (pos n) = omega (arith, ints)
-    zero_times (negsuc n) = omega (arith, ints)
-add_column v first second (place ∷ places) [] = omega (arith, ints, zero_times v)
-  where
-    zero_times : (v : ℤ) → v *ℤ pos 0 ≡ pos 0
-    zero_times (pos n) = omega (arith, ints)
-    zero_times (negsuc n) = omega (arith, ints)
+add_column v first second [] marking = omega (arith, ints, mul_zero v)
+add_column v first second (place ∷ places) [] = omega (arith, ints, mul_zero v)
 add_column v first second (place ∷ places) (count ∷ marking) =
     let both = add_mul (first place.id) (v *ℤ second place.id) count in
     let product = mul_mul v (second place.id) count in
@@ -104,17 +96,10 @@ add_column v first second (place ∷ places) (count ∷ marking) =
     let whole = mul_add v (sum_of (products (map (λ p. second p.id) places) marking)) (second place.id *ℤ pos count) in
     omega (arith, ints, both, product, rest, whole)
 
-zero_products : (places : List Place) (marking : List ℕ) → sum_of (products (map (λ place. pos 0) places) marking) ≡ pos 0
-zero_products [] marking = refl
-zero_products (place ∷ places) [] = refl
-zero_products (place ∷ places) (count ∷ marking) =
-    let none : pos 0 *ℤ pos count ≡ pos 0 = omega (arith, ints) in
-    omega (arith, ints, none, zero_products places marking)
-
 -- the combined value is that of the residual
 combined_is_residual : (net : PlainNet) (ps : List Part) (marking : List ℕ)
     → combined net ps marking ≡ sum_of (products (map (λ place. sum_of (residual_coefficient ps place.id)) net.places) marking) +ℤ sum_of (residual_constant ps)
-combined_is_residual net [] marking = omega (arith, ints, zero_products net.places marking)
+combined_is_residual net [] marking = omega (arith, ints, products-zero net.places marking)
 combined_is_residual net (part ∷ ps) marking =
     let rest = combined_is_residual net ps marking in
     let column = add_column part.multiplier (λ id. sum_of (residual_coefficient ps id)) part.slack.coefficient net.places marking in
@@ -148,14 +133,10 @@ pub combined_is_not_below : (net : PlainNet) (property : Property) (flows : List
 combined_is_not_below net property flows [] marking zero_flows met signed = refl
 combined_is_not_below net property flows (Fact factor ∷ close) marking zero_flows met signed =
     let rest = combined_is_not_below net property flows close marking zero_flows met signed in
-    let none : factor.value *ℤ value_at net (flow_slack_of net flows factor.fact) marking ≡ pos 0 = ap (λ z. factor.value *ℤ z) (zero_flows factor.fact) ∙ zero_times factor.value in
+    let none : factor.value *ℤ value_at net (flow_slack_of net flows factor.fact) marking ≡ pos 0 = ap (λ z. factor.value *ℤ z) (zero_flows factor.fact) ∙ mul_zero factor.value in
     subst (λ z. int_le (pos 0) (combined net (map (λ m. record { multiplier = multiplier_of m; slack = slack_of net property flows m }) close) marking +ℤ z) ≡ true) (sym none)
     (plus_zero (combined net (map (λ m. record { multiplier = multiplier_of m; slack = slack_of net property flows m }) close) marking) rest)
   where
-    zero_times : (v : ℤ) → v *ℤ pos 0 ≡ pos 0
-    zero_times (pos n) = omega (arith, ints)
-    zero_times (negsuc n) = omega (arith, ints)
-
     plus_zero : (x : ℤ) → int_le (pos 0) x ≡ true → int_le (pos 0) (x +ℤ pos 0) ≡ true
     plus_zero x h = grind (arith, ints)
 combined_is_not_below net property flows (Hypothesis value number ∷ close) marking zero_flows met signed =

@@ -17,7 +17,8 @@ use Rattle.plain_model.specs.Satisfaction.{Satisfies, value_of}
 use Rattle.plain_model.specs.Forms.{value_at, hypothesis_slack}
 use Rattle.plain_model.specs.Obligations.{Obligation, judged, flow_check, parts, close_sums, is_refuted, is_signed_well, close_check, obligations, is_true, judgement}
 use Rattle.plain_model.proofs.Products.{and_split}
-use Rattle.plain_model.proofs.Lists.{list_all-append, list_all-map, list_all-flat_map, list_all-enumerate_from, all_true}
+use Rattle.std.proofs.lemmas.List.Folds.{list_all-map}
+use Rattle.plain_model.proofs.Lists.{list_all-append, list_all-flat_map, list_all-enumerate_from, all_true}
 use Rattle.plain_model.proofs.Flows.{judged_holds, named_slack_is_zero}
 use Rattle.plain_model.proofs.Refutation.{combined, hypothesis_value, refuted_is_below, combined_is_not_below}
 
