@@ -1,3 +1,4 @@
 pub mod IdTexts
 pub mod Numbers
 pub mod Places
+pub mod Rising

@@ -1,4 +1,4 @@
-ghost use Rattle.std.specs.Prelude.{◌≡◌, IfOk};
+ghost use Rattle.std.specs.Prelude.{◌≡◌, [], ◌∷◌, ◌++◌, IfOk, OnOk, OnErr};
 
 use std::alloc::Global;
 use std::cmp::Ordering;
@@ -42,6 +42,24 @@ impl Name {
         ensures { result.now ≡ self.now }
     {
         self.bytes.as_slice()
+    }
+
+    /// Puts one byte behind the others. After an error the name is as before.
+    pub fn push(&mut self, byte: u8) -> Result<(), Memory>
+        ensures pushed { OnOk result (self.new ≡ self.old ++ byte ∷ []) }
+        ensures err { OnErr result (self.new ≡ self.old) }
+    {
+        self.bytes.push(byte)?;
+        Ok(())
+    }
+
+    /// Puts these bytes behind the others. After an error the name is as before.
+    pub fn append(&mut self, bytes: &[u8]) -> Result<(), Memory>
+        ensures appended { OnOk result (self.new ≡ self.old ++ bytes.now) }
+        ensures err { OnErr result (self.new ≡ self.old) }
+    {
+        self.bytes.extend_from_slice(bytes)?;
+        Ok(())
     }
 
     /// The vector of the bytes; it takes no memory.

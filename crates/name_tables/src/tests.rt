@@ -1,4 +1,9 @@
-use crate::{Added, Ids, Name, decimal, is_id, read_number};
+ghost use Rattle.std.specs.Prelude.{◌<◌};
+
+use crate::{
+    Added, Ids, Name, Table, cert_words, decimal, formula_words, is_id, net_attributes, net_words,
+    read_number, rule_words,
+};
 use std::test::Fail;
 
 #[test]
@@ -59,4 +64,63 @@ fn ids_are_well_formed_text_of_their_characters(rt: HostRuntime) {
     assert!(rt; !is_id(b"\xc0\xaf"));
     assert!(rt; !is_id(b"a\xe2\x82"));
     assert!(rt; !is_id(b"\xed\xa0\x80"));
+}
+
+#[test]
+fn a_name_grows_at_its_end(rt: HostRuntime) -> Result<(), Fail> {
+    let mut name = Name::from(Vec::new(rt.alloc()));
+    assert_eq!(rt; name.bytes(), b"".as_slice());
+    name.push(b'a')?;
+    name.append(b"bc")?;
+    name.append(b"")?;
+    name.push(b'd')?;
+    assert_eq!(rt; name.bytes(), b"abcd".as_slice());
+    let mut copy = Name::new(rt.alloc(), b"p")?;
+    copy.append(name.bytes())?;
+    assert_eq!(rt; copy.bytes(), b"pabcd".as_slice());
+    Ok(())
+}
+
+fn finds_each_word<const N: usize>(table: &Table<N>) -> bool
+    requires { N < 65536 }
+{
+    for tag in 0..N as u16 {
+        if table.find(table.text(tag)) != Some(tag) {
+            return false;
+        }
+    }
+    true
+}
+
+#[test]
+fn each_word_is_found_at_its_tag(rt: HostRuntime) -> Result<(), Fail> {
+    assert!(rt; finds_each_word(&net_words()));
+    assert!(rt; finds_each_word(&net_attributes()));
+    assert!(rt; finds_each_word(&formula_words()));
+    assert!(rt; finds_each_word(&cert_words()));
+    assert!(rt; finds_each_word(&rule_words()));
+    Ok(())
+}
+
+#[test]
+fn a_word_is_found_and_its_neighbours_are_not(rt: HostRuntime) -> Result<(), Fail> {
+    let table = net_words();
+    let is_found = match table.find(b"place") {
+        Some(tag) => table.text(tag) == b"place".as_slice(),
+        None => false,
+    };
+    assert!(rt; is_found);
+    assert_eq!(rt; table.find(b"palce"), None);
+    assert_eq!(rt; table.find(b""), None);
+    assert_eq!(rt; table.find(b"ad"), None);
+    assert_eq!(rt; table.find(b"adc"), None);
+    assert_eq!(rt; table.find(b"plac"), None);
+    assert_eq!(rt; table.find(b"places"), None);
+    assert_eq!(rt; table.find(b"variabledecm"), None);
+    assert_eq!(rt; table.find(b"\xff"), None);
+    assert_eq!(rt; net_attributes().find(b"xmlnt"), None);
+    assert_eq!(rt; formula_words().find(b"all_paths"), None);
+    assert_eq!(rt; cert_words().find(b"Bound"), None);
+    assert_eq!(rt; rule_words().find(b"variable-in-markin"), None);
+    Ok(())
 }

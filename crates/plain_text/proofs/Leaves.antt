@@ -6,8 +6,8 @@ use Rattle.std.proofs.lemmas.Fmt.{digits_decimal, decimal_nonempty}
 use Rattle.std.proofs.lemmas.List.{append-nil}
 use Rattle.std.specs.Char.{is_ascii_digit}
 use Rattle.std.specs.List.{list_all}
-use Rattle.doc_tree.specs.Texts.{escaped, escaped_byte}
-use Rattle.doc_tree.proofs.TextLaws.{text_of-leaf}
+use Rattle.doc_model.specs.Texts.{escaped, escaped_byte}
+use Rattle.doc_model.proofs.TextLaws.{text_of-leaf}
 use Rattle.name_tables.proofs.Numbers.{decimal_numerals}
 use Rattle.plain_text.specs.Markup.{end_tag, leaf_text, number_element, text_element}
 

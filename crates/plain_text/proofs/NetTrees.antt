@@ -4,8 +4,8 @@ use Rattle.std.proofs.lemmas.Grind.{flat_map-append}
 use Rattle.plain_model.specs.declared.nets.Place.{Place}
 use Rattle.plain_model.specs.declared.nets.Arc.{Arc}
 use Rattle.plain_model.specs.declared.nets.PlainNet.{PlainNet}
-use Rattle.doc_tree.specs.Texts.{first_line, text_of}
-use Rattle.doc_tree.specs.Trees.{attribute, leaf}
+use Rattle.doc_model.specs.Texts.{first_line, text_of}
+use Rattle.doc_model.specs.Trees.{attribute, leaf}
 use Rattle.plain_text.specs.Markup.{leaf_text, parent_element}
 use Rattle.plain_text.specs.NetParts.{arc_attributes, arc_text, id_attribute, inscription_text, marking_text, net_element, net_parts, nodes_text, page_text, place_text, source_attribute, target_attribute, transition_text}
 use Rattle.plain_text.specs.Nets.{arc_tree, id, label_tree, net_text, page_tree, place_tree, transition_tree}

@@ -5,7 +5,7 @@ use Rattle.plain_model.specs.declared.nets.Place.{Place}
 use Rattle.plain_model.specs.declared.nets.Arc.{Arc}
 use Rattle.plain_model.specs.declared.nets.PlainNet.{PlainNet}
 use Rattle.plain_text.specs.Markup.{element, empty_element, leaf_text, parent_element}
-use Rattle.doc_tree.proofs.TextLaws.{text_of-leaf}
+use Rattle.doc_model.proofs.TextLaws.{text_of-leaf}
 use Rattle.plain_text.specs.NetParts.{arc_attributes, arc_text, id_attribute, inscription_text, marking_text, nodes_text, place_text, transition_text}
 use Rattle.plain_text.specs.PropertyParts.{listed_place}
 

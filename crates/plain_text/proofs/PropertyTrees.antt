@@ -3,9 +3,9 @@ use Rattle.std.proofs.Common.{◌≡◌, ℕ, List, [], ◌∷◌, ◌++◌, cod
 use Rattle.plain_model.specs.declared.properties.Property.{Property}
 use Rattle.plain_model.specs.declared.properties.Count.{Count}
 use Rattle.plain_model.specs.declared.properties.Count.TheVariants.{Number, Tokens}
-use Rattle.doc_tree.specs.declared.tree.Element.{Element}
-use Rattle.doc_tree.specs.Texts.{first_line, text_of}
-use Rattle.doc_tree.specs.Trees.{leaf}
+use Rattle.doc_model.specs.declared.tree.Element.{Element}
+use Rattle.doc_model.specs.Texts.{first_line, text_of}
+use Rattle.doc_model.specs.Trees.{leaf}
 use Rattle.plain_text.specs.Markup.{leaf_text, parent_element}
 use Rattle.plain_text.specs.PropertyParts.{count_text, formula_text, listed_place, property_parts}
 use Rattle.plain_text.specs.Properties.{count_tree, formula_tree, parent, property_text}

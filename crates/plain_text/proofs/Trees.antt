@@ -1,12 +1,12 @@
 -- What an element writes, by what its attributes and its children write.
 use Rattle.std.proofs.Common.{◌≡◌, ℕ, ◌<◌, Bool, true, false, List, [], ◌∷◌, ◌++◌, map, length, flat_map, codes, if◌then◌else◌, refl, sym, ap, ◌∙◌, append_assoc, arith}
 use Rattle.std.proofs.lemmas.List.{append-nil}
-use Rattle.doc_tree.specs.declared.tree.Attribute.{Attribute}
-use Rattle.doc_tree.specs.declared.tree.Element.{Element}
-use Rattle.doc_tree.specs.Texts.{attribute_text, content_text, start_text, text_of}
-use Rattle.doc_tree.specs.Trees as tree
-use Rattle.doc_tree.proofs.TextLaws.{text_of-element, text_of-out}
-use Rattle.doc_tree.proofs.Writing.{content-children}
+use Rattle.doc_model.specs.declared.tree.Attribute.{Attribute}
+use Rattle.doc_model.specs.declared.tree.Element.{Element}
+use Rattle.doc_model.specs.Texts.{attribute_text, content_text, start_text, text_of}
+use Rattle.doc_model.specs.Trees as tree
+use Rattle.doc_model.proofs.TextLaws.{text_of-element, text_of-out}
+use Rattle.doc_model.proofs.Writing.{content-children}
 use Rattle.plain_text.specs.Markup.{element, empty_element, parent_element, end_tag}
 use Rattle.plain_text.proofs.Nonempty.{element-some, flat_map-some}
 

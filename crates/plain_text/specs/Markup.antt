@@ -1,7 +1,7 @@
 -- What an element writes: a start tag, what is in the element and an end tag, or one empty tag, and then a line feed.
 use Rattle.std.specs.Prelude.{ℕ, List, [], ◌∷◌, ◌++◌, codes, decimal}
-use Rattle.doc_tree.specs.Texts.{escaped, text_of}
-use Rattle.doc_tree.specs.Trees.{leaf}
+use Rattle.doc_model.specs.Texts.{escaped, text_of}
+use Rattle.doc_model.specs.Trees.{leaf}
 
 -- a space and `NAME="VALUE"`
 abbrev pub attribute : List ℕ → List ℕ → List ℕ

@@ -1,6 +1,6 @@
 -- What each part of a net's tree writes.
 use Rattle.std.specs.Prelude.{ℕ, List, [], ◌++◌, flat_map, codes, decimal, ◌==◌, if◌then◌else◌}
-use Rattle.doc_tree.specs.Texts.{first_line}
+use Rattle.doc_model.specs.Texts.{first_line}
 use Rattle.plain_text.specs.Markup.{attribute, empty_element, parent_element, element, leaf_text}
 use Rattle.plain_model.specs.declared.nets.Place.{Place}
 use Rattle.plain_model.specs.declared.nets.Arc.{Arc}

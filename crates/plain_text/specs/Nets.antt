@@ -1,9 +1,9 @@
 -- The document tree of a place/transition net without references, and its canonical text (ISO/IEC 15909-2, `ptnet`).
 use Rattle.std.specs.Prelude.{ℕ, List, [], ◌∷◌, ◌++◌, map, codes, decimal, ◌==◌, if◌then◌else◌}
-use Rattle.doc_tree.specs.declared.tree.Element.{Element}
-use Rattle.doc_tree.specs.declared.tree.Attribute.{Attribute}
-use Rattle.doc_tree.specs.Trees.{attribute, element, leaf}
-use Rattle.doc_tree.specs.Texts.{document_text}
+use Rattle.doc_model.specs.declared.tree.Element.{Element}
+use Rattle.doc_model.specs.declared.tree.Attribute.{Attribute}
+use Rattle.doc_model.specs.Trees.{attribute, element, leaf}
+use Rattle.doc_model.specs.Texts.{document_text}
 use Rattle.plain_model.specs.declared.nets.Place.{Place}
 use Rattle.plain_model.specs.declared.nets.Arc.{Arc}
 use Rattle.plain_model.specs.declared.nets.PlainNet.{PlainNet}

@@ -1,8 +1,8 @@
 -- The document tree of a file with one property, and its canonical text (Model Checking Contest, `property-set`).
 use Rattle.std.specs.Prelude.{ℕ, List, [], ◌∷◌, map, codes, decimal}
-use Rattle.doc_tree.specs.declared.tree.Element.{Element}
-use Rattle.doc_tree.specs.Trees.{element, leaf}
-use Rattle.doc_tree.specs.Texts.{document_text}
+use Rattle.doc_model.specs.declared.tree.Element.{Element}
+use Rattle.doc_model.specs.Trees.{element, leaf}
+use Rattle.doc_model.specs.Texts.{document_text}
 use Rattle.plain_model.specs.declared.properties.Property.{Property}
 use Rattle.plain_model.specs.declared.properties.Count.{Count}
 use Rattle.plain_model.specs.declared.properties.Count.TheVariants.{Number, Tokens}

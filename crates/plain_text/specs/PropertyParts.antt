@@ -1,6 +1,6 @@
 -- What each part of a property's tree writes.
 use Rattle.std.specs.Prelude.{ℕ, List, [], ◌++◌, flat_map, codes, decimal}
-use Rattle.doc_tree.specs.Texts.{first_line}
+use Rattle.doc_model.specs.Texts.{first_line}
 use Rattle.plain_text.specs.Markup.{parent_element, element, leaf_text}
 use Rattle.plain_model.specs.declared.properties.Property.{Property}
 use Rattle.plain_model.specs.declared.properties.Count.{Count}

@@ -2,7 +2,7 @@ ghost use Rattle.std.specs.Prelude.{◌≡◌, ◌++◌, [], ◌∷◌, IfOk, On
 ghost use Rattle.std.specs.Bool.{OnTrue};
 ghost use Rattle.std.specs.Fmt.{signed_decimal};
 ghost use Rattle.plain_text.specs.Markup.{end_tag, leaf_text, number_element, text_element};
-ghost use Rattle.doc_tree.specs.Texts.{escaped, escaped_byte};
+ghost use Rattle.doc_model.specs.Texts.{escaped, escaped_byte};
 
 use itoa::Buffer;
 use std::alloc::Global;

@@ -1,6 +1,6 @@
 use Rattle.std.proofs.Common.{codes, decimal, refl, ◌∙◌}
 use Rattle.std.specs.Fmt.{digits}
-use Rattle.doc_tree.specs.Texts.{first_line}
+use Rattle.doc_model.specs.Texts.{first_line}
 use Rattle.plain_text.specs.Examples.{ring_net, ring_property}
 use Rattle.plain_text.specs.Markup.{text_element}
 use Rattle.plain_text.specs.NetParts.{arc_attributes, arc_text, id_attribute, inscription_text, marking_text, net_element, nodes_text, place_text, source_attribute, target_attribute, transition_text}

@@ -1,5 +1,5 @@
 use Rattle.std.proofs.Common.{sym, ap, ◌++◌, ◌∙◌}
-use Rattle.doc_tree.specs.Texts.{first_line}
+use Rattle.doc_model.specs.Texts.{first_line}
 use Rattle.plain_text.proofs.NetTrees.{net_text-parts}
 use Rattle.plain_text.proofs.Pieces.{three}
 use Rattle.plain_text.proofs.net_writer.put_net.Goals as goal

@@ -1,4 +1,4 @@
-use Rattle.doc_tree.specs.Texts.{first_line}
+use Rattle.doc_model.specs.Texts.{first_line}
 use Rattle.std.proofs.Common.{◌++◌, ap, sym, ◌∙◌, refl}
 use Rattle.plain_text.specs.Markup.{leaf_text}
 use Rattle.plain_text.specs.PropertyParts.{formula_text}

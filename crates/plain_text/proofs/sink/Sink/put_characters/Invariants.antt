@@ -1,5 +1,5 @@
 use Rattle.std.proofs.Common.{◌≡◌, ◌++◌, take}
-use Rattle.doc_tree.specs.Texts.{escaped}
+use Rattle.doc_model.specs.Texts.{escaped}
 use Rattle.plain_text.proofs.sink.Sink.put_characters.Given as goal
 
 abbrev pub invariant-loop-character : goal.invariant-loop-character

@@ -1,7 +1,7 @@
 ghost use Rattle.std.specs.Prelude.{◌≡◌, ◌++◌, ◌∷◌, [], IfOk, MatchOption, OnOk, codes};
 ghost use Rattle.std.specs.List.{flat_map};
-ghost use Rattle.doc_tree.specs.Texts.{attribute_text, content_text, document_text, end_text, escaped, escaped_byte, first_line, start_text, text_of};
-ghost use Rattle.doc_tree.specs.Trees.{attribute};
+ghost use Rattle.doc_model.specs.Texts.{attribute_text, content_text, document_text, end_text, escaped, escaped_byte, first_line, start_text, text_of};
+ghost use Rattle.doc_model.specs.Trees.{attribute};
 
 use crate::tree::{Attribute, Element};
 use std::alloc::Global;

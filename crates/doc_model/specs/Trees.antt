@@ -1,7 +1,7 @@
 -- Values of document trees.
 use Rattle.std.specs.Prelude.{ℕ, List, []}
-use Rattle.doc_tree.specs.declared.tree.Attribute.{Attribute}
-use Rattle.doc_tree.specs.declared.tree.Element.{Element, roll-Element}
+use Rattle.doc_model.specs.declared.tree.Attribute.{Attribute}
+use Rattle.doc_model.specs.declared.tree.Element.{Element, roll-Element}
 
 abbrev pub attribute : List ℕ → List ℕ → Attribute
 attribute name value = record { name = name; value = value }

@@ -1,9 +1,9 @@
 -- The canonical text of a document tree.
 use Rattle.std.specs.Prelude.{ℕ, List, [], ◌∷◌, ◌++◌, ◌==◌, codes, if◌then◌else◌}
 use Rattle.std.specs.List.{concat, flat_map}
-use Rattle.doc_tree.specs.declared.tree.Attribute.{Attribute}
-use Rattle.doc_tree.specs.declared.tree.Element.{Element, fold-Element}
-use Rattle.doc_tree.specs.declared.tree.Element.TheOpen.{Element-F}
+use Rattle.doc_model.specs.declared.tree.Attribute.{Attribute}
+use Rattle.doc_model.specs.declared.tree.Element.{Element, fold-Element}
+use Rattle.doc_model.specs.declared.tree.Element.TheOpen.{Element-F}
 
 -- how a byte of a value or a text is written
 abbrev pub escaped_byte : ℕ → List ℕ

@@ -1,6 +1,6 @@
 use Rattle.std.proofs.Common.{◌≡◌, ◌≤◌, ◌++◌, take, drop}
-use Rattle.doc_tree.specs.Texts.{escaped}
-use Rattle.doc_tree.proofs.text.TextWriter.escaped.Given as goal
+use Rattle.doc_model.specs.Texts.{escaped}
+use Rattle.doc_model.proofs.text.TextWriter.escaped.Given as goal
 
 -- what is written, and the plain bytes that wait, are the escapes of what was read
 abbrev pub invariant-loop-at : goal.invariant-loop-at

@@ -1,11 +1,11 @@
 use Rattle.std.proofs.Common.{◌++◌, ◌<◌, sym, ◌∙◌, ap, length, arith}
 use Rattle.std.proofs.lemmas.Bool.{eqb-false}
 use Rattle.std.specs.List.{flat_map}
-use Rattle.doc_tree.specs.declared.tree.Element.{out-Element}
-use Rattle.doc_tree.specs.Texts.{text_of, start_text, attribute_text, end_text}
-use Rattle.doc_tree.proofs.TextLaws.{text_of-out}
-use Rattle.doc_tree.proofs.Writing.{content-children, five_pieces}
-use Rattle.doc_tree.proofs.text.TextWriter.+writing.Goals as goal
+use Rattle.doc_model.specs.declared.tree.Element.{out-Element}
+use Rattle.doc_model.specs.Texts.{text_of, start_text, attribute_text, end_text}
+use Rattle.doc_model.proofs.TextLaws.{text_of-out}
+use Rattle.doc_model.proofs.Writing.{content-children, five_pieces}
+use Rattle.doc_model.proofs.text.TextWriter.+writing.Goals as goal
 
 pub element-returns : goal.element-returns
 element-returns t c =

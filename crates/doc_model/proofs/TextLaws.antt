@@ -2,10 +2,10 @@
 use Rattle.std.proofs.Common.{◌≡◌, ℕ, List, [], ◌∷◌, ◌++◌, map, codes, ap, ◌∙◌}
 use Rattle.std.proofs.lemmas.List.{append-nil}
 use Rattle.std.specs.List.{flat_map}
-use Rattle.doc_tree.specs.declared.tree.Element.{Element, out-Element, fold_out-Element, fold-roll-Element}
-use Rattle.doc_tree.specs.declared.tree.Attribute.{Attribute}
-use Rattle.doc_tree.specs.Trees.{attribute, element_at, element, leaf}
-use Rattle.doc_tree.specs.Texts.{text_of, text_of_parts, document_text, first_line, start_text, attribute_text, content_text}
+use Rattle.doc_model.specs.declared.tree.Element.{Element, out-Element, fold_out-Element, fold-roll-Element}
+use Rattle.doc_model.specs.declared.tree.Attribute.{Attribute}
+use Rattle.doc_model.specs.Trees.{attribute, element_at, element, leaf}
+use Rattle.doc_model.specs.Texts.{text_of, text_of_parts, document_text, first_line, start_text, attribute_text, content_text}
 
 -- the text of an element, from its parts
 pub text_of-out : (e : Element) → text_of e ≡ start_text (out-Element e).name ++ flat_map attribute_text (out-Element e).attributes ++ content_text (out-Element e).name (map text_of (out-Element e).children) (out-Element e).text

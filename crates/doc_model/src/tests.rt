@@ -1,6 +1,6 @@
 ghost use Rattle.std.specs.Prelude.{◌≡◌, ◌∷◌, [], codes};
-ghost use Rattle.doc_tree.specs.Texts.{document_text};
-ghost use Rattle.doc_tree.specs.Trees.{attribute, element};
+ghost use Rattle.doc_model.specs.Texts.{document_text};
+ghost use Rattle.doc_model.specs.Trees.{attribute, element};
 
 use crate::{Attribute, Element, TextWriter, write};
 use name_tables::Name;

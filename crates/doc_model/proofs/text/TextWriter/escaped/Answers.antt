@@ -1,7 +1,7 @@
 use Rattle.std.proofs.Common.{arith}
-use Rattle.doc_tree.proofs.Writing.{escaped-plain, escaped-escape}
-use Rattle.doc_tree.proofs.text.TextWriter.escaped.Goals as goal
-use Rattle.doc_tree.proofs.text.TextWriter.escaped.Goals.{in-Some+in_ok-bytes+in_ok-bytes-2, in_default}
+use Rattle.doc_model.proofs.Writing.{escaped-plain, escaped-escape}
+use Rattle.doc_model.proofs.text.TextWriter.escaped.Goals as goal
+use Rattle.doc_model.proofs.text.TextWriter.escaped.Goals.{in-Some+in_ok-bytes+in_ok-bytes-2, in_default}
 
 pub loop-at-preserved : goal.loop-at-preserved
 loop-at-preserved c =

@@ -2,8 +2,8 @@
 use Rattle.std.proofs.Common.{◌≡◌, ℕ, ◌+◌, ◌-◌, ◌<◌, ◌≤◌, List, [], ◌∷◌, ◌++◌, map, length, take, drop, get_or, codes, refl, sym, ap, ◌∙◌, append_assoc, arith}
 use Rattle.std.proofs.lemmas.List.{append-nil, drop_all, drop-take, drop-append-le, flat_map_more, length-take-le, take_more}
 use Rattle.std.specs.List.{concat, flat_map}
-use Rattle.doc_tree.specs.declared.tree.Element.{Element}
-use Rattle.doc_tree.specs.Texts.{text_of, content_text, end_text, escaped, escaped_byte}
+use Rattle.doc_model.specs.declared.tree.Element.{Element}
+use Rattle.doc_model.specs.Texts.{text_of, content_text, end_text, escaped, escaped_byte}
 
 -- the children's texts, joined
 pub concat-map : (f : Element → List ℕ) (es : List Element) → concat (map f es) ≡ flat_map f es

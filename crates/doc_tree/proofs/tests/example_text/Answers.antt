@@ -1,5 +1,0 @@
-use Rattle.doc_tree.proofs.TextLaws.{document_text-example}
-use Rattle.doc_tree.proofs.tests.example_text.Goals as goal
-
-pub returns : goal.returns
-returns c = document_text-example
