@@ -1,0 +1,13 @@
+pub mod Stems
+pub mod Past
+pub mod Tags
+pub mod Steps
+pub mod Bytes
+pub mod Reading
+pub mod Classes
+pub mod Forward
+pub mod Whole
+pub mod Ends
+pub mod Answering
+pub mod Runs
+pub mod Written

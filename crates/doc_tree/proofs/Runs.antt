@@ -1,0 +1,129 @@
+-- Runs of plain bytes are that many steps.
+use Rattle.std.proofs.Common.{true≢false, MatchBool, length-take-le, ◌≡◌, ℕ, suc, ◌+◌, ◌<◌, ◌≤◌, Bool, true, false, cond, List, [], ◌∷◌, ◌++◌, length, take, Option, None, refl, sym, ap, ◌∙◌, subst, append_assoc, append-nil, arith}
+use Rattle.doc_model.specs.declared.tree.Element.{Element}
+use Rattle.doc_tree.specs.declared.places.Quote.{Quote}
+use Rattle.doc_tree.specs.declared.places.Dashes.{Dashes}
+use Rattle.doc_tree.specs.declared.places.Dashes.TheVariants.{Neither}
+use Rattle.doc_tree.specs.declared.places.Tag.{Tag}
+use Rattle.doc_tree.specs.declared.places.Open.{Open}
+use Rattle.doc_tree.specs.declared.places.Place.{Place}
+use Rattle.doc_tree.specs.declared.places.Place.TheVariants.{Between, Value, Comment, Instruction}
+use Rattle.doc_tree.specs.declared.places.Part.TheVariants.{Whole}
+use Rattle.doc_tree.specs.Characters.{is_text, is_value, is_comment_byte, is_instruction_byte}
+use Rattle.doc_tree.specs.Machine.{state}
+use Rattle.doc_tree.specs.Machine.{open_at, with_text}
+use Rattle.doc_tree.specs.Fed.{HasReadBy}
+use Rattle.doc_tree.proofs.Classes.{ascii_step}
+use Rattle.doc_tree.proofs.Answering.{byte_answer}
+use Rattle.doc_tree.specs.Characters.{all_bytes}
+
+pub all_more : (ok : ℕ → Bool) (s : List ℕ) (c : ℕ) → all_bytes ok s ≡ true → ok c ≡ true → all_bytes ok (s ++ c ∷ []) ≡ true
+all_more ok [] c h e = rw e refl
+all_more ok (d ∷ s) c h e = pick (ok d) refl (all_more ok s c)
+  where
+    pick : (t : Bool) → ok d ≡ t → (all_bytes ok s ≡ true → ok c ≡ true → all_bytes ok (s ++ c ∷ []) ≡ true) → cond (ok d) (all_bytes ok (s ++ c ∷ [])) false ≡ true
+    pick true is more =
+        let rest : all_bytes ok s ≡ true = sym (ap (λ t. cond t (all_bytes ok s) false) is) ∙ h in
+        rw is (more rest e)
+    pick false is more = absurd (true≢false (sym h ∙ ap (λ t. cond t (all_bytes ok s) false) is))
+
+all_first : (ok : ℕ → Bool) (c : ℕ) (s : List ℕ) → all_bytes ok (c ∷ s) ≡ true → (ok c ≡ true) × (all_bytes ok s ≡ true)
+all_first ok c s h = pick (ok c) refl
+  where
+    pick : (t : Bool) → ok c ≡ t → (ok c ≡ true) × (all_bytes ok s ≡ true)
+    pick true is = (is, sym (ap (λ t. cond t (all_bytes ok s) false) is) ∙ h)
+    pick false is = absurd (true≢false (sym h ∙ ap (λ t. cond t (all_bytes ok s) false) is))
+
+-- more bytes behind one
+further : {p : Place} {os : List Open} {r : Option Element} (b s : List ℕ) (c count : ℕ) → HasReadBy None (state p Whole os r) (suc count + length s) ((b ++ c ∷ []) ++ s)
+    → HasReadBy None (state p Whole os r) (count + length (c ∷ s)) (b ++ c ∷ s)
+further {p} {os} {r} b s c count h =
+    subst (λ bytes. HasReadBy None (state p Whole os r) (count + length (c ∷ s)) bytes) (append_assoc b (c ∷ []) s)
+    (subst (λ n. HasReadBy None (state p Whole os r) n ((b ++ c ∷ []) ++ s)) (omega arith) h)
+
+none_more : {p : Place} {os : List Open} {r : Option Element} (b : List ℕ) (count : ℕ) → HasReadBy None (state p Whole os r) count b → HasReadBy None (state p Whole os r) (count + 0) (b ++ [])
+none_more {p} {os} {r} b count h =
+    subst (λ bytes. HasReadBy None (state p Whole os r) (count + 0) bytes) (sym (append-nil b)) (subst (λ n. HasReadBy None (state p Whole os r) n b) (omega arith) h)
+
+pub text_run : (s : List ℕ) (o : Open) (os : List Open) (r : Option Element) (count : ℕ) (b : List ℕ) → all_bytes is_text s ≡ true → HasReadBy None (state Between Whole (o ∷ os) r) count b
+    → HasReadBy None (state Between Whole (with_text o s ∷ os) r) (count + length s) (b ++ s)
+text_run [] o os r count b all h =
+    subst (λ t. HasReadBy None (state Between Whole (open_at o.at o.name o.attributes o.children t ∷ os) r) (count + 0) (b ++ [])) (sym (append-nil o.text)) (none_more b count h)
+text_run (c ∷ s) o os r count b all h =
+    let (is, rest) = all_first is_text c s all in
+    further b s c count
+    (subst (λ t. HasReadBy None (state Between Whole (open_at o.at o.name o.attributes o.children t ∷ os) r) (suc count + length s) ((b ++ c ∷ []) ++ s)) (append_assoc o.text (c ∷ []) s)
+    (text_run s (with_text o (c ∷ [])) os r (suc count) (b ++ c ∷ []) rest
+    (byte_answer b c count (state Between Whole (o ∷ os) r) Between Whole (with_text o (c ∷ []) ∷ os) r h (sym (ascii_step Between (o ∷ os) r count c refl is)))))
+
+pub value_run : (s : List ℕ) (t : Tag) (k : List ℕ) (q : Quote) (v : List ℕ) (os : List Open) (r : Option Element) (count : ℕ) (b : List ℕ) → all_bytes (is_value q) s ≡ true
+    → HasReadBy None (state (Value t k q v) Whole os r) count b → HasReadBy None (state (Value t k q (v ++ s)) Whole os r) (count + length s) (b ++ s)
+value_run [] t k q v os r count b all h =
+    subst (λ w. HasReadBy None (state (Value t k q w) Whole os r) (count + 0) (b ++ [])) (sym (append-nil v)) (none_more b count h)
+value_run (c ∷ s) t k q v os r count b all h =
+    let (is, rest) = all_first (is_value q) c s all in
+    further b s c count
+    (subst (λ w. HasReadBy None (state (Value t k q w) Whole os r) (suc count + length s) ((b ++ c ∷ []) ++ s)) (append_assoc v (c ∷ []) s)
+    (value_run s t k q (v ++ c ∷ []) os r (suc count) (b ++ c ∷ []) rest
+    (byte_answer b c count (state (Value t k q v) Whole os r) (Value t k q (v ++ c ∷ [])) Whole os r h (sym (ascii_step (Value t k q v) os r count c refl is)))))
+
+comment_rest : (s : List ℕ) (os : List Open) (r : Option Element) (count : ℕ) (b : List ℕ) → all_bytes is_comment_byte s ≡ true → HasReadBy None (state (Comment Neither) Whole os r) count b
+    → HasReadBy None (state (Comment Neither) Whole os r) (count + length s) (b ++ s)
+comment_rest [] os r count b all h = none_more b count h
+comment_rest (c ∷ s) os r count b all h =
+    let (is, rest) = all_first is_comment_byte c s all in
+    further b s c count (comment_rest s os r (suc count) (b ++ c ∷ []) rest
+    (byte_answer b c count (state (Comment Neither) Whole os r) (Comment Neither) Whole os r h (sym (ascii_step (Comment Neither) os r count c refl is))))
+
+pub comment_run : (s : List ℕ) (d : Dashes) (os : List Open) (r : Option Element) (count : ℕ) (b : List ℕ) → 0 < length s → all_bytes is_comment_byte s ≡ true → HasReadBy None (state (Comment d) Whole os r) count b
+    → HasReadBy None (state (Comment Neither) Whole os r) (count + length s) (b ++ s)
+comment_run [] d os r count b some all h = absurd (omega arith)
+comment_run (c ∷ s) d os r count b some all h =
+    let (is, rest) = all_first is_comment_byte c s all in
+    further b s c count (comment_rest s os r (suc count) (b ++ c ∷ []) rest
+    (byte_answer b c count (state (Comment d) Whole os r) (Comment Neither) Whole os r h (sym (ascii_step (Comment d) os r count c refl is))))
+
+instruction_rest : (s : List ℕ) (os : List Open) (r : Option Element) (count : ℕ) (b : List ℕ) → all_bytes is_instruction_byte s ≡ true → HasReadBy None (state (Instruction false) Whole os r) count b
+    → HasReadBy None (state (Instruction false) Whole os r) (count + length s) (b ++ s)
+instruction_rest [] os r count b all h = none_more b count h
+instruction_rest (c ∷ s) os r count b all h =
+    let (is, rest) = all_first is_instruction_byte c s all in
+    further b s c count (instruction_rest s os r (suc count) (b ++ c ∷ []) rest
+    (byte_answer b c count (state (Instruction false) Whole os r) (Instruction false) Whole os r h (sym (ascii_step (Instruction false) os r count c refl is))))
+
+pub instruction_run : (s : List ℕ) (e : Bool) (os : List Open) (r : Option Element) (count : ℕ) (b : List ℕ) → 0 < length s → all_bytes is_instruction_byte s ≡ true → HasReadBy None (state (Instruction e) Whole os r) count b
+    → HasReadBy None (state (Instruction false) Whole os r) (count + length s) (b ++ s)
+instruction_run [] e os r count b some all h = absurd (omega arith)
+instruction_run (c ∷ s) e os r count b some all h =
+    let (is, rest) = all_first is_instruction_byte c s all in
+    further b s c count (instruction_rest s os r (suc count) (b ++ c ∷ []) rest
+    (byte_answer b c count (state (Instruction e) Whole os r) (Instruction false) Whole os r h (sym (ascii_step (Instruction e) os r count c refl is))))
+
+-- the same, as the code has them
+pub many : (p : Place) (os : List Open) (r : Option Element) (count n : ℕ) (b bytes : List ℕ) → n ≤ length bytes → HasReadBy None (state p Whole os r) (count + length (take n bytes)) (b ++ take n bytes)
+    → HasReadBy None (state p Whole os r) (count + n) (b ++ take n bytes)
+many p os r count n b bytes within h = subst (λ m. HasReadBy None (state p Whole os r) (count + m) (b ++ take n bytes)) (length-take-le n bytes within) h
+
+pub no_more : (p : Place) (os : List Open) (r : Option Element) (count : ℕ) (b : List ℕ) → HasReadBy None (state p Whole os r) count b → HasReadBy None (state p Whole os r) (count + 0) (b ++ [])
+no_more p os r count b h = none_more b count h
+
+pub length_more : (n : ℕ) (bytes : List ℕ) → n ≤ length bytes → 0 < n → 0 < length (take n bytes)
+length_more n bytes within some = omega (arith, length-take-le n bytes within)
+
+pub stand : (p : Place) (os : List Open) (r : Option Element) (count n : ℕ) (b bytes : List ℕ) → n ≤ 0 → HasReadBy None (state p Whole os r) count b
+    → HasReadBy None (state p Whole os r) (count + n) (b ++ take n bytes)
+stand p os r count n b bytes none h = subst (λ m. HasReadBy None (state p Whole os r) (count + m) (b ++ take m bytes)) (omega arith) (no_more p os r count b h)
+
+pub moved : (p q : Place) (os ps : List Open) (r : Option Element) (count : ℕ) (b : List ℕ) → p ≡ q → os ≡ ps → HasReadBy None (state p Whole os r) count b → HasReadBy None (state q Whole ps r) count b
+moved p q os ps r count b e1 e2 h = subst (λ x. HasReadBy None (state q Whole x r) count b) e2 (subst (λ x. HasReadBy None (state x Whole os r) count b) e1 h)
+
+pub text_taken : (p : Place) (old new : List Open) (s : List ℕ) (added : Bool) → MatchBool added ((o : Open) × (os : List Open) × (old ≡ o ∷ os) × (new ≡ with_text o s ∷ os)) ((old ≡ []) × (new ≡ []))
+    → p ≡ Between → all_bytes is_text s ≡ true → added ≡ true → (r : Option Element) (count : ℕ) (b : List ℕ) → HasReadBy None (state p Whole old r) count b → HasReadBy None (state p Whole new r) (count + length s) (b ++ s)
+text_taken p old new s true (o, os, e2, e3) e1 all e r count b h =
+    moved Between p (with_text o s ∷ os) new r (count + length s) (b ++ s) (sym e1) (sym e3) (text_run s o os r count b all (moved p Between old (o ∷ os) r count b e1 e2 h))
+text_taken p old new s false none e1 all e r count b h = absurd (true≢false (sym e))
+
+pub text_not_taken : (p : Place) (old new : List Open) (s : List ℕ) (added : Bool) → MatchBool added ((o : Open) × (os : List Open) × (old ≡ o ∷ os) × (new ≡ with_text o s ∷ os)) ((old ≡ []) × (new ≡ []))
+    → added ≡ false → (r : Option Element) (count : ℕ) (b : List ℕ) → HasReadBy None (state p Whole old r) count b → HasReadBy None (state p Whole new r) (count + 0) (b ++ [])
+text_not_taken p old new s false (e2, e3) e r count b h = no_more p new r count b (moved p p old new r count b refl (e2 ∙ sym e3) h)
+text_not_taken p old new s true some e r count b h = absurd (true≢false e)

@@ -1,0 +1,16 @@
+ghost use Rattle.std.specs.Prelude.{◌≡◌, ℕ, List};
+ghost use Rattle.doc_model.specs.declared.tree.Element.{Element};
+ghost use Rattle.doc_tree.specs.Documents.{Spells};
+ghost use Rattle.doc_tree.specs.Writable.{WrittenIsSpelled};
+
+/// Bytes spell at most one tree.
+pub fn spelled_tree_is_one()
+    ensures { (b : List ℕ) (t u : Element) → Spells b t → Spells b u → t ≡ u }
+{}
+
+/// The text that `write` gives of a tree spells that tree, offsets aside: where no element has both children and a text, a text that
+/// isn't empty has a character that isn't white, names are names, the attribute names of an element are distinct, and values and
+/// texts are UTF-8 of characters that a document may have.
+pub fn written_text_is_spelled()
+    ensures { WrittenIsSpelled }
+{}

@@ -1,0 +1,19 @@
+//! Documents read into trees, from pieces of any length, and written.
+#![tactic(auto)]
+
+mod characters;
+mod faults;
+mod laws;
+mod many;
+mod places;
+mod reader;
+mod stack;
+mod stepping;
+
+pub use doc_model::{Attribute, Element, TextWriter, write};
+pub use faults::{DocFault, Fault};
+pub use laws::{spelled_tree_is_one, written_text_is_spelled};
+pub use reader::{Reader, read_pieces};
+
+#[cfg(test)]
+mod tests;

@@ -1,0 +1,777 @@
+ghost use Rattle.std.specs.Prelude.{◌≡◌, ◌++◌, ◌∷◌, ◌<◌, ◌≤◌, ◌*◌, ◌+◌, ◌^◌, [], List, Some, None, Option, IfOk, MatchBool, MatchOption, OnOk, length, nat_eq};
+ghost use Rattle.doc_model.specs.declared.tree.Element.{Element};
+ghost use Rattle.doc_tree.specs.declared.places.Open.{Open};
+ghost use Rattle.doc_tree.specs.declared.places.Place.TheVariants as place;
+ghost use Rattle.doc_tree.specs.declared.places.Part.TheVariants as part;
+ghost use Rattle.doc_tree.specs.Documents.{are_white, is_fresh, shown};
+ghost use Rattle.doc_tree.specs.Characters.{is_tail, utf8};
+ghost use Rattle.doc_tree.specs.Machine.{after_end, after_key, after_tag, chosen, closed, element_of, empty_element, lead_at, named, opened, refused, stay, state, step, step_at, taken, takes, test};
+
+use crate::characters::{
+    digit_value, is_character_number, is_comment_byte, is_front_of_four, is_front_of_three,
+    is_instruction_byte, is_lead, is_lead_of_two, is_name_byte, is_name_start, is_tail, is_text,
+    is_value, is_white,
+};
+use crate::places::{Dashes, Entity, Open, Part, Place, Quote, Radix, Tag};
+use crate::stack::Stack;
+use doc_model::{Attribute, Element};
+use name_tables::Name;
+use sqlite_items::Items;
+use std::alloc::Global;
+use wide_sums::Memory;
+
+fn are_white(bytes: &[u8]) -> bool
+    ensures { result ≡ are_white bytes.now }
+{
+    for byte in bytes {
+        if !is_white(*byte) {
+            return false;
+        }
+    }
+    true
+}
+
+/// The text of an element with these characters.
+fn shown(alloc: Global, characters: Name) -> Name
+    ensures { result ≡ shown characters }
+{
+    if are_white(characters.bytes()) {
+        return Name::from(Vec::new(alloc));
+    }
+    characters
+}
+
+fn is_fresh(name: &[u8], attributes: &[Attribute]) -> bool
+    ensures { result ≡ is_fresh name.now attributes.now }
+{
+    for attribute in attributes {
+        if name == attribute.name.bytes() {
+            return false;
+        }
+    }
+    true
+}
+
+/// An element has ended.
+fn close(opens: &mut Stack, root: &mut Option<Element>, element: Element) -> Result<(), Memory>
+    ensures { OnOk result (state place.Between part.Whole opens.new root.new ≡ chosen (closed element opens.old root.old)) }
+{
+    if let Some(ended) = opens.add_child(element)? {
+        *root = Some(ended);
+    }
+    Ok(())
+}
+
+/// A whole character of these bytes, or a reference to it, at a place that takes it.
+fn take(alloc: Global, opens: &mut Stack, place: Place, characters: &[u8]) -> Result<Place, Memory>
+    ensures { IfOk result (λ p. (r : Option Element) → state p part.Whole opens.new r ≡ chosen (taken place opens.old r characters.now)) }
+{
+    match place {
+        Place::Between => {
+            opens.add_text(characters)?;
+            Ok(Place::Between)
+        }
+        Place::Less(at) => Ok(Place::TagName(at, Name::new(alloc, characters)?)),
+        Place::TagName(at, mut name) => {
+            name.append(characters)?;
+            Ok(Place::TagName(at, name))
+        }
+        Place::Blank(tag) => Ok(Place::Key(tag, Name::new(alloc, characters)?)),
+        Place::Key(tag, mut key) => {
+            key.append(characters)?;
+            Ok(Place::Key(tag, key))
+        }
+        Place::Value(tag, key, quote, mut value) => {
+            value.append(characters)?;
+            Ok(Place::Value(tag, key, quote, value))
+        }
+        Place::Comment(_) => Ok(Place::Comment(Dashes::Neither)),
+        Place::Question => Ok(Place::Target),
+        Place::Target => Ok(Place::Target),
+        Place::Instruction(_) => Ok(Place::Instruction(false)),
+        other => Ok(other),
+    }
+}
+
+/// Between two tokens outside the root.
+fn outside(at: u64, byte: u8) -> Place
+    ensures { (r : Option Element) → state result part.Whole [] r ≡ chosen (step_at place.Between [] r at byte) }
+{
+    let stays = is_white(byte);
+    if stays {
+        return Place::Between;
+    }
+    if byte == b'<' {
+        return Place::Less(at);
+    }
+    Place::Refused(at)
+}
+
+fn between(opens: &mut Stack, at: u64, byte: u8) -> Result<(Place, Part), Memory>
+    ensures { IfOk result (λ s. (r : Option Element) → state s.0 s.1 opens.new r ≡ chosen (step_at place.Between opens.old r at byte)) }
+{
+    match opens.innermost() {
+        None => Ok((outside(at, byte), Part::Whole)),
+        Some(_) => {
+            if is_text(byte) {
+                opens.add_text(&[byte])?;
+                return Ok((Place::Between, Part::Whole));
+            }
+            if byte == b'<' {
+                return Ok((Place::Less(at), Part::Whole));
+            }
+            if byte == b'&' {
+                return Ok((Place::Between, Part::Reference));
+            }
+            Ok((Place::Refused(at), Part::Whole))
+        }
+    }
+}
+
+fn less(
+    alloc: Global,
+    opens: &Stack,
+    root: &Option<Element>,
+    from: u64,
+    at: u64,
+    byte: u8,
+) -> Result<Place, Memory>
+    ensures { IfOk result (λ p. state p part.Whole opens.now root.now ≡ chosen (step_at (place.Less from) opens.now root.now at byte)) }
+{
+    if is_name_start(byte) {
+        return match root {
+            None => Ok(Place::TagName(from, Name::new(alloc, &[byte])?)),
+            Some(_) => Ok(Place::Refused(at)),
+        };
+    }
+    if byte == b'!' {
+        return Ok(Place::Bang);
+    }
+    if byte == b'?' {
+        return Ok(Place::Question);
+    }
+    if byte == b'/' {
+        return match opens.innermost() {
+            None => Ok(Place::Refused(at)),
+            Some(_) => Ok(Place::Close(0)),
+        };
+    }
+    Ok(Place::Refused(at))
+}
+
+/// Behind a start tag's name, white or value.
+fn after_tag(alloc: Global, opens: &mut Stack, tag: Tag, at: u64, byte: u8) -> Result<Place, Memory>
+    ensures { IfOk result (λ p. (r : Option Element) → state p part.Whole opens.new r ≡ chosen (after_tag tag opens.old r at byte)) }
+{
+    if is_white(byte) {
+        return Ok(Place::Blank(tag));
+    }
+    if byte == b'>' {
+        let Tag {
+            at: from,
+            name,
+            attributes,
+        } = tag;
+        opens.push(Open {
+            at: from,
+            name,
+            attributes,
+            children: Items::new(alloc),
+            text: Name::from(Vec::new(alloc)),
+        })?;
+        return Ok(Place::Between);
+    }
+    if byte == b'/' {
+        return Ok(Place::Slash(tag));
+    }
+    Ok(Place::Refused(at))
+}
+
+fn tag_name(
+    alloc: Global,
+    opens: &mut Stack,
+    from: u64,
+    mut name: Name,
+    at: u64,
+    byte: u8,
+) -> Result<Place, Memory>
+    ensures { IfOk result (λ p. (r : Option Element) → state p part.Whole opens.new r ≡ chosen (step_at (place.TagName from name) opens.old r at byte)) }
+{
+    if is_name_byte(byte) {
+        name.push(byte)?;
+        return Ok(Place::TagName(from, name));
+    }
+    let tag = Tag {
+        at: from,
+        name,
+        attributes: Items::new(alloc),
+    };
+    after_tag(alloc, opens, tag, at, byte)
+}
+
+fn blank(alloc: Global, opens: &mut Stack, tag: Tag, at: u64, byte: u8) -> Result<Place, Memory>
+    ensures { IfOk result (λ p. (r : Option Element) → state p part.Whole opens.new r ≡ chosen (step_at (place.Blank tag) opens.old r at byte)) }
+{
+    if is_name_start(byte) {
+        return Ok(Place::Key(tag, Name::new(alloc, &[byte])?));
+    }
+    after_tag(alloc, opens, tag, at, byte)
+}
+
+/// Behind the name of an attribute.
+fn after_key(tag: Tag, key: Name, at: u64, byte: u8) -> Place
+    ensures { (os : List Open) (r : Option Element) → state result part.Whole os r ≡ chosen (after_key tag key os r at byte) }
+{
+    if is_white(byte) {
+        return Place::AfterKey(tag, key);
+    }
+    if byte == b'=' {
+        return Place::Equals(tag, key);
+    }
+    Place::Refused(at)
+}
+
+fn key(tag: Tag, mut key: Name, at: u64, byte: u8) -> Result<Place, Memory>
+    ensures { IfOk result (λ p. (os : List Open) (r : Option Element) → state p part.Whole os r ≡ chosen (step_at (place.Key tag key) os r at byte)) }
+{
+    if is_name_byte(byte) {
+        key.push(byte)?;
+        return Ok(Place::Key(tag, key));
+    }
+    if is_fresh(key.bytes(), tag.attributes.as_slice()) {
+        return Ok(after_key(tag, key, at, byte));
+    }
+    Ok(Place::Refused(at))
+}
+
+fn equals(alloc: Global, tag: Tag, key: Name, at: u64, byte: u8) -> Place
+    ensures { (os : List Open) (r : Option Element) → state result part.Whole os r ≡ chosen (step_at (place.Equals tag key) os r at byte) }
+{
+    if is_white(byte) {
+        return Place::Equals(tag, key);
+    }
+    if byte == b'"' {
+        return Place::Value(tag, key, Quote::Double, Name::from(Vec::new(alloc)));
+    }
+    if byte == b'\'' {
+        return Place::Value(tag, key, Quote::Single, Name::from(Vec::new(alloc)));
+    }
+    Place::Refused(at)
+}
+
+fn value_byte(
+    mut tag: Tag,
+    key: Name,
+    quote: Quote,
+    mut value: Name,
+    at: u64,
+    byte: u8,
+) -> Result<(Place, Part), Memory>
+    ensures { IfOk result (λ s. (os : List Open) (r : Option Element) → state s.0 s.1 os r ≡ chosen (step_at (place.Value tag key quote value) os r at byte)) }
+{
+    if is_value(quote, byte) {
+        value.push(byte)?;
+        return Ok((Place::Value(tag, key, quote, value), Part::Whole));
+    }
+    if byte == quote.byte() {
+        tag.attributes.push(Attribute { name: key, value })?;
+        return Ok((Place::Attributed(tag), Part::Whole));
+    }
+    if byte == b'&' {
+        return Ok((Place::Value(tag, key, quote, value), Part::Reference));
+    }
+    Ok((Place::Refused(at), Part::Whole))
+}
+
+fn slash(
+    alloc: Global,
+    opens: &mut Stack,
+    root: &mut Option<Element>,
+    tag: Tag,
+    at: u64,
+    byte: u8,
+) -> Result<Place, Memory>
+    ensures { IfOk result (λ p. state p part.Whole opens.new root.new ≡ chosen (step_at (place.Slash tag) opens.old root.old at byte)) }
+{
+    if byte != b'>' {
+        return Ok(Place::Refused(at));
+    }
+    let Tag {
+        at: from,
+        name,
+        attributes,
+    } = tag;
+    let element = Element {
+        at: from,
+        name,
+        attributes,
+        children: Items::new(alloc),
+        text: Name::from(Vec::new(alloc)),
+    };
+    close(opens, root, element)?;
+    Ok(Place::Between)
+}
+
+/// Behind an end tag's name.
+fn after_end(
+    alloc: Global,
+    opens: &mut Stack,
+    root: &mut Option<Element>,
+    inner: Open,
+    at: u64,
+    byte: u8,
+) -> Result<Place, Memory>
+    ensures { IfOk result (λ p. state p part.Whole opens.new root.new ≡ chosen (after_end inner opens.old root.old at byte)) }
+{
+    if is_white(byte) {
+        opens.push(inner)?;
+        return Ok(Place::CloseWhite);
+    }
+    if byte != b'>' {
+        opens.push(inner)?;
+        return Ok(Place::Refused(at));
+    }
+    let Open {
+        at: from,
+        name,
+        attributes,
+        children,
+        text,
+    } = inner;
+    let element = Element {
+        at: from,
+        name,
+        attributes,
+        children,
+        text: shown(alloc, text),
+    };
+    close(opens, root, element)?;
+    Ok(Place::Between)
+}
+
+/// In the name of an end tag, behind so many bytes of it.
+fn close_name(
+    alloc: Global,
+    opens: &mut Stack,
+    root: &mut Option<Element>,
+    read: usize,
+    at: u64,
+    byte: u8,
+) -> Result<Place, Memory>
+    ensures { IfOk result (λ p. state p part.Whole opens.new root.new ≡ chosen (step_at (place.Close read) opens.old root.old at byte)) }
+{
+    let wanted = match opens.innermost() {
+        None => return Ok(Place::Refused(at)),
+        Some(inner) => inner.name.bytes().get(read).copied(),
+    };
+    match wanted {
+        Some(wanted) => {
+            if byte == wanted {
+                return Ok(Place::Close(read + 1));
+            }
+            Ok(Place::Refused(at))
+        }
+        None => close_white(alloc, opens, root, at, byte),
+    }
+}
+
+fn close_white(
+    alloc: Global,
+    opens: &mut Stack,
+    root: &mut Option<Element>,
+    at: u64,
+    byte: u8,
+) -> Result<Place, Memory>
+    ensures { IfOk result (λ p. state p part.Whole opens.new root.new ≡ chosen (step_at place.CloseWhite opens.old root.old at byte)) }
+{
+    match opens.pop() {
+        None => Ok(Place::Refused(at)),
+        Some(inner) => after_end(alloc, opens, root, inner, at, byte),
+    }
+}
+
+fn comment(dashes: Dashes, at: u64, byte: u8) -> Place
+    ensures { (os : List Open) (r : Option Element) → state result part.Whole os r ≡ chosen (step_at (place.Comment dashes) os r at byte) }
+{
+    if is_comment_byte(byte) {
+        return Place::Comment(Dashes::Neither);
+    }
+    if byte == b'-' {
+        return match dashes {
+            Dashes::Neither => Place::Comment(Dashes::One),
+            Dashes::One => Place::Comment(Dashes::Two),
+            Dashes::Two => Place::Comment(Dashes::Two),
+        };
+    }
+    if byte == b'>' {
+        return match dashes {
+            Dashes::Neither => Place::Comment(Dashes::Neither),
+            Dashes::One => Place::Comment(Dashes::Neither),
+            Dashes::Two => Place::Between,
+        };
+    }
+    Place::Refused(at)
+}
+
+fn instruction(ends: bool, at: u64, byte: u8) -> Place
+    ensures { (os : List Open) (r : Option Element) → state result part.Whole os r ≡ chosen (step_at (place.Instruction ends) os r at byte) }
+{
+    if is_instruction_byte(byte) {
+        return Place::Instruction(false);
+    }
+    if byte == b'?' {
+        return Place::Instruction(true);
+    }
+    if byte == b'>' {
+        if ends {
+            return Place::Between;
+        }
+        return Place::Instruction(false);
+    }
+    Place::Refused(at)
+}
+
+fn target(at: u64, byte: u8) -> Place
+    ensures { (os : List Open) (r : Option Element) → state result part.Whole os r ≡ chosen (step_at place.Target os r at byte) }
+{
+    if is_name_byte(byte) {
+        return Place::Target;
+    }
+    if is_white(byte) {
+        return Place::Instruction(false);
+    }
+    if byte == b'?' {
+        return Place::TargetEnd;
+    }
+    Place::Refused(at)
+}
+
+/// A place where one byte alone may stand.
+fn only(byte: u8, wanted: u8, then: Place, at: u64) -> Place
+    ensures { (os : List Open) (r : Option Element) → state result part.Whole os r ≡ chosen (test (nat_eq byte wanted) (stay then os r) (refused os r at)) }
+{
+    if byte == wanted {
+        return then;
+    }
+    Place::Refused(at)
+}
+
+fn question(at: u64, byte: u8) -> Place
+    ensures { (os : List Open) (r : Option Element) → state result part.Whole os r ≡ chosen (step_at place.Question os r at byte) }
+{
+    if is_name_start(byte) {
+        return Place::Target;
+    }
+    Place::Refused(at)
+}
+
+/// A byte that begins no character past ASCII, where no part was read and no reference may stand.
+fn tag_step(
+    alloc: Global,
+    opens: &mut Stack,
+    root: &mut Option<Element>,
+    place: Place,
+    at: u64,
+    byte: u8,
+) -> Result<(Place, Part), Memory>
+    ensures { IfOk result (λ s. state s.0 s.1 opens.new root.new ≡ chosen (step_at place opens.old root.old at byte)) }
+{
+    let next = match place {
+        Place::Between => return between(opens, at, byte),
+        Place::Value(tag, key, quote, value) => return value_byte(tag, key, quote, value, at, byte),
+        Place::Less(from) => less(alloc, opens, root, from, at, byte)?,
+        Place::TagName(from, name) => tag_name(alloc, opens, from, name, at, byte)?,
+        Place::Blank(tag) => blank(alloc, opens, tag, at, byte)?,
+        Place::Key(tag, name) => key(tag, name, at, byte)?,
+        Place::AfterKey(tag, name) => after_key(tag, name, at, byte),
+        Place::Equals(tag, name) => equals(alloc, tag, name, at, byte),
+        Place::Attributed(tag) => after_tag(alloc, opens, tag, at, byte)?,
+        Place::Slash(tag) => slash(alloc, opens, root, tag, at, byte)?,
+        Place::Close(read) => close_name(alloc, opens, root, read, at, byte)?,
+        Place::CloseWhite => close_white(alloc, opens, root, at, byte)?,
+        Place::Comment(dashes) => comment(dashes, at, byte),
+        Place::Question => question(at, byte),
+        Place::Target => target(at, byte),
+        Place::Instruction(ends) => instruction(ends, at, byte),
+        Place::MarkOne => only(byte, 187, Place::MarkTwo, at),
+        Place::MarkTwo => only(byte, 191, Place::Between, at),
+        Place::Bang => only(byte, b'-', Place::BangDash, at),
+        Place::BangDash => only(byte, b'-', Place::Comment(Dashes::Neither), at),
+        Place::TargetEnd => only(byte, b'>', Place::Between, at),
+        Place::Refused(first) => Place::Refused(first),
+    };
+    Ok((next, Part::Whole))
+}
+
+/// Where a character past ASCII may stand.
+fn takes(opens: &Stack, root: &Option<Element>, place: &Place) -> bool
+    ensures { result ≡ takes place.now opens.now root.now }
+{
+    match place {
+        Place::Between => opens.innermost().is_some(),
+        Place::Less(_) => root.is_none(),
+        Place::TagName(_, _) => true,
+        Place::Blank(_) => true,
+        Place::Key(_, _) => true,
+        Place::Value(_, _, _, _) => true,
+        Place::Comment(_) => true,
+        Place::Question => true,
+        Place::Target => true,
+        Place::Instruction(_) => true,
+        _ => false,
+    }
+}
+
+/// A byte that may begin a character past ASCII, where no part was read.
+fn lead(
+    alloc: Global,
+    opens: &mut Stack,
+    root: &mut Option<Element>,
+    place: Place,
+    at: u64,
+    byte: u8,
+) -> Result<(Place, Part), Memory>
+    ensures { IfOk result (λ s. state s.0 s.1 opens.new root.new ≡ chosen (lead_at place opens.old root.old at byte)) }
+{
+    match place {
+        Place::Close(read) => {
+            let next = close_name(alloc, opens, root, read, at, byte)?;
+            Ok((next, Part::Whole))
+        }
+        Place::Refused(first) => Ok((Place::Refused(first), Part::Whole)),
+        Place::Between => {
+            if opens.innermost().is_some() {
+                return Ok((Place::Between, Part::Lead(byte)));
+            }
+            if root.is_none() && at == 0 && byte == 239 {
+                return Ok((Place::MarkOne, Part::Whole));
+            }
+            Ok((Place::Refused(at), Part::Whole))
+        }
+        other => {
+            if takes(opens, root, &other) {
+                return Ok((other, Part::Lead(byte)));
+            }
+            Ok((Place::Refused(at), Part::Whole))
+        }
+    }
+}
+
+/// The last byte of a character past ASCII.
+fn last(
+    alloc: Global,
+    opens: &mut Stack,
+    place: Place,
+    characters: &[u8],
+    at: u64,
+    byte: u8,
+) -> Result<(Place, Part), Memory>
+    ensures { IfOk result (λ s. (r : Option Element) → state s.0 s.1 opens.new r ≡ chosen (test (is_tail byte) (taken place opens.old r characters.now) (refused opens.old r at))) }
+{
+    if is_tail(byte) {
+        let next = take(alloc, opens, place, characters)?;
+        return Ok((next, Part::Whole));
+    }
+    Ok((Place::Refused(at), Part::Whole))
+}
+
+/// Behind the first byte of a character past ASCII.
+fn second(
+    alloc: Global,
+    opens: &mut Stack,
+    place: Place,
+    first: u8,
+    at: u64,
+    byte: u8,
+) -> Result<(Place, Part), Memory>
+    ensures { IfOk result (λ s. (r : Option Element) → state s.0 s.1 opens.new r ≡ chosen (step place (part.Lead first) opens.old r at byte)) }
+{
+    if is_lead_of_two(first) {
+        return last(alloc, opens, place, &[first, byte], at, byte);
+    }
+    if is_front_of_three(first, byte) {
+        return Ok((place, Part::Three(first, byte)));
+    }
+    if is_front_of_four(first, byte) {
+        return Ok((place, Part::Four(first, byte)));
+    }
+    Ok((Place::Refused(at), Part::Whole))
+}
+
+/// In the name of a reference, behind so many bytes of it.
+fn entity_name(
+    alloc: Global,
+    opens: &mut Stack,
+    place: Place,
+    entity: Entity,
+    read: usize,
+    at: u64,
+    byte: u8,
+) -> Result<(Place, Part), Memory>
+    ensures { IfOk result (λ s. (r : Option Element) → state s.0 s.1 opens.new r ≡ chosen (named place entity read opens.old r at byte)) }
+{
+    let text = entity.text();
+    let wanted = match text.get(read) {
+        Some(byte) => *byte,
+        None => 0,
+    };
+    if byte != wanted {
+        return Ok((Place::Refused(at), Part::Whole));
+    }
+    if text.len().saturating_sub(read) > 1 {
+        return Ok((place, Part::Named(entity, read + 1)));
+    }
+    let next = take(alloc, opens, place, &[entity.byte()])?;
+    Ok((next, Part::Whole))
+}
+
+/// Behind the `&` of a reference.
+fn reference(place: Place, at: u64, byte: u8) -> (Place, Part)
+    ensures { (os : List Open) (r : Option Element) → state result.0 result.1 os r ≡ chosen (step place part.Reference os r at byte) }
+{
+    if byte == b'#' {
+        return (place, Part::Hash);
+    }
+    if byte == b'a' {
+        return (place, Part::ReferenceA);
+    }
+    if byte == b'l' {
+        return (place, Part::Named(Entity::Less, 1));
+    }
+    if byte == b'g' {
+        return (place, Part::Named(Entity::Greater, 1));
+    }
+    if byte == b'q' {
+        return (place, Part::Named(Entity::Quotation, 1));
+    }
+    (Place::Refused(at), Part::Whole)
+}
+
+/// Behind `&a`.
+fn reference_a(place: Place, at: u64, byte: u8) -> (Place, Part)
+    ensures { (os : List Open) (r : Option Element) → state result.0 result.1 os r ≡ chosen (step place part.ReferenceA os r at byte) }
+{
+    if byte == b'm' {
+        return (place, Part::Named(Entity::Ampersand, 2));
+    }
+    if byte == b'p' {
+        return (place, Part::Named(Entity::Apostrophe, 2));
+    }
+    (Place::Refused(at), Part::Whole)
+}
+
+/// Behind `&#`.
+fn hash(place: Place, at: u64, byte: u8) -> (Place, Part)
+    ensures { (os : List Open) (r : Option Element) → state result.0 result.1 os r ≡ chosen (step place part.Hash os r at byte) }
+{
+    if Radix::Decimal.is_digit(byte) {
+        return (place, Part::Digits(Radix::Decimal, digit_value(byte)));
+    }
+    if byte == b'x' {
+        return (place, Part::HashX);
+    }
+    (Place::Refused(at), Part::Whole)
+}
+
+/// Behind `&#x`.
+fn hash_x(place: Place, at: u64, byte: u8) -> (Place, Part)
+    ensures { (os : List Open) (r : Option Element) → state result.0 result.1 os r ≡ chosen (step place part.HashX os r at byte) }
+{
+    if Radix::Hexadecimal.is_digit(byte) {
+        return (place, Part::Digits(Radix::Hexadecimal, digit_value(byte)));
+    }
+    (Place::Refused(at), Part::Whole)
+}
+
+/// The bytes of the character with this number.
+#[tactic(auto, unfolding(crate::specs::Characters::utf8))]
+fn utf8(alloc: Global, number: u32) -> Result<Name, Memory>
+    requires { number ≤ 1114111 }
+    ensures { IfOk result (λ name. name ≡ utf8 number) }
+{
+    if number < 128 {
+        return Name::new(alloc, &[number as u8]);
+    }
+    let last = 128 + (number % 64) as u8;
+    if number < 2048 {
+        return Name::new(alloc, &[192 + (number / 64) as u8, last]);
+    }
+    let third = 128 + (number / 64 % 64) as u8;
+    if number < 65_536 {
+        return Name::new(alloc, &[224 + (number / 4096) as u8, third, last]);
+    }
+    let second = 128 + (number / 4096 % 64) as u8;
+    Name::new(
+        alloc,
+        &[240 + (number / 262_144) as u8, second, third, last],
+    )
+}
+
+/// Behind digits of this number.
+fn digits(
+    alloc: Global,
+    opens: &mut Stack,
+    place: Place,
+    radix: Radix,
+    number: u32,
+    at: u64,
+    byte: u8,
+) -> Result<(Place, Part), Memory>
+    ensures { IfOk result (λ s. (r : Option Element) → state s.0 s.1 opens.new r ≡ chosen (step place (part.Digits radix number) opens.old r at byte)) }
+{
+    if radix.is_digit(byte) {
+        let longer = u64::from(radix.base()) * u64::from(number) + u64::from(digit_value(byte));
+        if longer <= 1_114_111 {
+            return Ok((place, Part::Digits(radix, longer as u32)));
+        }
+        return Ok((Place::Refused(at), Part::Whole));
+    }
+    if byte == b';' && is_character_number(number) {
+        let character = utf8(alloc, number)?;
+        let next = take(alloc, opens, place, character.bytes())?;
+        return Ok((next, Part::Whole));
+    }
+    Ok((Place::Refused(at), Part::Whole))
+}
+
+/// The next byte: where the reader stands behind it, and the part of a character or a reference that was read.
+pub fn next(
+    alloc: Global,
+    opens: &mut Stack,
+    root: &mut Option<Element>,
+    place: Place,
+    part: Part,
+    at: u64,
+    byte: u8,
+) -> Result<(Place, Part), Memory>
+    ensures { IfOk result (λ s. state s.0 s.1 opens.new root.new ≡ chosen (step place part opens.old root.old at byte)) }
+{
+    match part {
+        Part::Whole => {
+            if is_lead(byte) {
+                lead(alloc, opens, root, place, at, byte)
+            } else {
+                tag_step(alloc, opens, root, place, at, byte)
+            }
+        }
+        Part::Lead(first) => second(alloc, opens, place, first, at, byte),
+        Part::Three(first, second) => {
+            last(alloc, opens, place, &[first, second, byte], at, byte)
+        }
+        Part::Four(first, second) => {
+            if is_tail(byte) {
+                return Ok((place, Part::Last(first, second, byte)));
+            }
+            Ok((Place::Refused(at), Part::Whole))
+        }
+        Part::Last(first, second, third) => {
+            last(alloc, opens, place, &[first, second, third, byte], at, byte)
+        }
+        Part::Reference => Ok(reference(place, at, byte)),
+        Part::ReferenceA => Ok(reference_a(place, at, byte)),
+        Part::Named(entity, read) => entity_name(alloc, opens, place, entity, read, at, byte),
+        Part::Hash => Ok(hash(place, at, byte)),
+        Part::HashX => Ok(hash_x(place, at, byte)),
+        Part::Digits(radix, number) => digits(alloc, opens, place, radix, number, at, byte),
+    }
+}

@@ -1,0 +1,212 @@
+ghost use Rattle.std.specs.Prelude.{◌≤◌};
+
+use crate::{DocFault, Element, Reader};
+use std::alloc::Global;
+use std::test::Fail;
+
+/// A text, and the offset at which it is malformed, if it is no document.
+type Row = (&'static [u8], Option<u64>);
+
+/// What a reader answers to the bytes in pieces of a size, one or more.
+fn read_in(alloc: Global, text: &[u8], size: usize) -> Result<Element, DocFault> {
+    let mut reader = match Reader::new(alloc) {
+        Ok(reader) => reader,
+        Err(_) => return Err(DocFault::Memory),
+    };
+    for piece in text.chunks(size.max(1)) {
+        if reader.count() > 1_000_000 || piece.len() > 1_000_000 {
+            return Err(DocFault::Memory);
+        }
+        match reader.feed(piece) {
+            Ok(()) => {}
+            Err(fault) => return Err(fault),
+        }
+    }
+    reader.finish()
+}
+
+fn fault_in(alloc: Global, text: &[u8], size: usize) -> Option<DocFault> {
+    match read_in(alloc, text, size) {
+        Ok(_) => None,
+        Err(fault) => Some(fault),
+    }
+}
+
+const TAGS_AND_ENDS: &[Row] = &[
+    (b"<a/>", None),
+    (b"<a></a>", None),
+    (b" \t\r\n<a \n></a\t> \n", None),
+    (b"<a><b></a>", Some(8)),
+    (b"<a><b/></a", Some(10)),
+    (b"<a/>x", Some(4)),
+    (b"<a><b></a>", Some(8)),
+    (b"", Some(0)),
+    (b"<a", Some(2)),
+    (b"<a/><b/>", Some(5)),
+    (b"</a>", Some(1)),
+    (b"<a></ab>", Some(6)),
+    (b"<ab></a>", Some(7)),
+    (b"<a / >", Some(4)),
+    (b"x<a/>", Some(0)),
+    (b"< a/>", Some(1)),
+    (b"<1a/>", Some(1)),
+    (b"<a></ a>", Some(5)),
+];
+
+const ATTRIBUTES: &[Row] = &[
+    (b"<a b='1&#x41;'> x <!-- c -->y</a>", None),
+    (b"<a b=\"1\" B=\"2\"/>", None),
+    (b"<a b\n=\n'\"'\tb1='>'/>", None),
+    (b"<a b=\"1\" b=\"2\"/>", Some(10)),
+    (b"<a b='1' b ='2'/>", Some(10)),
+    (b"<a b=\"1\"c=\"2\"/>", Some(8)),
+    (b"<a b=\"<\"/>", Some(6)),
+    (b"<a b=1/>", Some(5)),
+    (b"<a b/>", Some(4)),
+    (b"<a 'b'/>", Some(3)),
+    (b"<a></a b='1'>", Some(7)),
+];
+
+const REFERENCES: &[Row] = &[
+    (
+        b"<a>&lt;&gt;&amp;&apos;&quot;&#9;&#0065;&#x1F600;&#xfffe;</a>",
+        None,
+    ),
+    (b"<a>&amq;</a>", Some(6)),
+    (b"<a>&#0;</a>", Some(6)),
+    (b"<a>&#xD800;</a>", Some(10)),
+    (b"<a>&#xDFFF;</a>", Some(10)),
+    (b"<a>&#x110000;</a>", Some(11)),
+    (b"<a>&#1114112;</a>", Some(11)),
+    (b"<a>&;</a>", Some(4)),
+    (b"<a>&#;</a>", Some(5)),
+    (b"<a>&#x;</a>", Some(6)),
+    (b"<a>&#X41;</a>", Some(5)),
+    (b"<a>&nbsp;</a>", Some(4)),
+    (b"<a>&lt</a>", Some(6)),
+    (b"&lt;<a/>", Some(0)),
+];
+
+const ASIDES: &[Row] = &[
+    (b"<?xml version=\"1.0\" encoding=\"UTF-8\"?>\n<a/>", None),
+    (b"<!----><a><!-- -- > --->]]></a><?b?><?c d?e??>", None),
+    (b"<!DOCTYPE a>", Some(2)),
+    (b"<a><![CDATA[x]]></a>", Some(5)),
+    (b"<!--><a/>", Some(9)),
+    (b"<!---><a/>", Some(10)),
+    (b"<?>", Some(2)),
+    (b"<?a?b?>", Some(4)),
+    (b"<a><!-- ", Some(8)),
+    (b"<a/><!-- \x01 -->", Some(9)),
+];
+
+const BYTES_PAST_ASCII: &[Row] = &[
+    (b"\xEF\xBB\xBF<a/>", None),
+    (
+        b"<\xC3\xA4 \xE2\x82\xAC='\xF0\x9F\x98\x80'>\xEF\xBB\xBF\xEF\xBF\xBE\x7F</\xC3\xA4>",
+        None,
+    ),
+    (b"<a>\xFF</a>", Some(3)),
+    (b"<a>\xC3", Some(4)),
+    (b"\xEF\xBB\xBF\xEF\xBB\xBF<a/>", Some(3)),
+    (b"<a>\xC0\x80</a>", Some(3)),
+    (b"<a>\xE0\x9F\xBF</a>", Some(4)),
+    (b"<a>\xED\xA0\x80</a>", Some(4)),
+    (b"<a>\xF0\x8F\xBF\xBF</a>", Some(4)),
+    (b"<a>\xF4\x90\x80\x80</a>", Some(4)),
+    (b"<a>\xF5\x80\x80\x80</a>", Some(3)),
+    (b"<a>\x80</a>", Some(3)),
+    (b"<a>\xE2\x82</a>", Some(5)),
+    (b"<a>\x00</a>", Some(3)),
+    (b"<\xC3\xA4></\xC3\xA5>", Some(7)),
+    (b"\xC3\xA4<a/>", Some(0)),
+    (b"\xEF<a/>", Some(1)),
+];
+
+/// The place of the first row that isn't answered so, in pieces of some size.
+fn wrong_row(alloc: Global, rows: &[Row]) -> Option<usize> {
+    for (place, (text, offset)) in rows.iter().enumerate() {
+        let fault = match offset {
+            None => None,
+            Some(offset) => Some(DocFault::Malformed { offset: *offset }),
+        };
+        for size in [1, 2, 1_000_000] {
+            if fault_in(alloc, text, size) != fault {
+                return Some(place);
+            }
+        }
+    }
+    None
+}
+
+#[test]
+fn each_row_is_answered_in_any_pieces(rt: HostRuntime) -> Result<(), Fail> {
+    assert_eq!(rt; wrong_row(rt.alloc(), TAGS_AND_ENDS), None);
+    assert_eq!(rt; wrong_row(rt.alloc(), ATTRIBUTES), None);
+    assert_eq!(rt; wrong_row(rt.alloc(), REFERENCES), None);
+    assert_eq!(rt; wrong_row(rt.alloc(), ASIDES), None);
+    assert_eq!(rt; wrong_row(rt.alloc(), BYTES_PAST_ASCII), None);
+    Ok(())
+}
+
+fn nested(alloc: Global, count: usize) -> Result<Vec<u8>, Fail> {
+    let mut text = Vec::new(alloc);
+    for _ in 0..count {
+        text.extend_from_slice(b"<a>")?;
+    }
+    Ok(text)
+}
+
+#[test]
+fn elements_are_at_most_256_deep(rt: HostRuntime) -> Result<(), Fail> {
+    let mut text = nested(rt.alloc(), 257)?;
+    assert_eq!(rt;
+        fault_in(rt.alloc(), text.as_slice(), 1),
+        Some(DocFault::Deep { offset: 768 })
+    );
+    assert_eq!(rt;
+        fault_in(rt.alloc(), text.as_slice(), 2),
+        Some(DocFault::Deep { offset: 768 })
+    );
+    assert_eq!(rt;
+        fault_in(rt.alloc(), text.as_slice(), 1_000_000),
+        Some(DocFault::Deep { offset: 768 })
+    );
+    text.truncate(769);
+    assert_eq!(rt;
+        fault_in(rt.alloc(), text.as_slice(), 1),
+        Some(DocFault::Malformed { offset: 769 })
+    );
+    text.extend_from_slice(b"\xC3")?;
+    assert_eq!(rt;
+        fault_in(rt.alloc(), text.as_slice(), 1),
+        Some(DocFault::Malformed { offset: 770 })
+    );
+    Ok(())
+}
+
+fn is_worked_row(element: &Element) -> bool {
+    if element.at != 0 || element.name.bytes() != b"a".as_slice() {
+        return false;
+    }
+    if !element.children.is_empty() || element.text.bytes() != b" x y".as_slice() {
+        return false;
+    }
+    match element.attributes.as_slice() {
+        [one] => one.name.bytes() == b"b".as_slice() && one.value.bytes() == b"1A".as_slice(),
+        _ => false,
+    }
+}
+
+#[test]
+fn a_document_is_its_tree(rt: HostRuntime) -> Result<(), Fail> {
+    let text = b"<a b='1&#x41;'> x <!-- c -->y</a>";
+    for size in [1, 2, 33] {
+        let right = match read_in(rt.alloc(), text, size) {
+            Ok(element) => is_worked_row(&element),
+            Err(_) => false,
+        };
+        assert_eq!(rt; right, true);
+    }
+    Ok(())
+}
