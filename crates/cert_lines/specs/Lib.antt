@@ -1,0 +1,5 @@
+pub mod Parts
+pub mod Statements
+pub mod Sums
+pub mod Texts
+pub mod Words

@@ -1,0 +1,137 @@
+use name_tables::Name;
+use sqlite_items::Items;
+
+/// A place of the net file, or one of its instances: `P` or `P@K` in a certificate.
+#[derive(Debug, Drop)]
+pub struct PlaceRef {
+    /// The id of the place.
+    pub place: Name,
+    /// The index of the colour, from 0; `None` stands for all colours of the place.
+    pub colour: Option<u32>,
+}
+
+/// A coefficient on a place, `V*P` or `V*P@K` in a certificate.
+#[derive(Debug, Drop)]
+pub struct Weight {
+    /// The coefficient, of an absolute value up to 2^63 - 1.
+    pub value: i64,
+    /// The place that it stands on.
+    pub place: PlaceRef,
+}
+
+/// A multiple of a fact, `V*NAME` in a certificate.
+#[derive(Debug, Drop)]
+pub struct Factor {
+    /// The multiplier, of an absolute value up to 2^63 - 1.
+    pub value: i64,
+    /// The name of the fact.
+    pub fact: Name,
+}
+
+/// What a bound needs at one transition instance, `T@K` in a certificate.
+#[derive(Debug, Drop)]
+pub struct Step {
+    /// The number of its line, from 1.
+    pub line: u32,
+    /// The id of the transition.
+    pub transition: Name,
+    /// The index of the binding, from 0.
+    pub binding: u32,
+    /// The multiplier of the bound after the firing, of an absolute value up to 2^63 - 1.
+    pub scale: i64,
+    /// The multiplier of the bound before the firing, of an absolute value up to 2^63 - 1.
+    pub keep: i64,
+    /// The multiples of earlier facts that help.
+    pub factors: Items<Factor>,
+}
+
+/// What a fact claims.
+#[derive(Debug, Drop)]
+pub enum FactKind {
+    /// A weighted sum of tokens that no firing changes (Murata 1989, S-invariants).
+    Flow(Items<Weight>),
+    /// A set of places that keeps a token once it has one (Murata 1989, traps).
+    Trap(Items<PlaceRef>),
+    /// A weighted sum of tokens that stays at or below a limit.
+    Bound {
+        /// The limit, of an absolute value up to 2^63 - 1.
+        limit: i64,
+        /// The weighted sum; a place that isn't listed has 0.
+        weights: Items<Weight>,
+        /// What single transition instances need, in file order.
+        steps: Items<Step>,
+    },
+}
+
+/// A named fact.
+#[derive(Debug, Drop)]
+pub struct Fact {
+    /// The number of its line, from 1.
+    pub line: u32,
+    /// The name by which later lines speak of it.
+    pub name: Name,
+    /// What it claims.
+    pub kind: FactKind,
+}
+
+/// One summand of a `close` line.
+#[derive(Debug, Drop)]
+pub enum Multiplier {
+    /// A multiple of a fact, `V*NAME` in a certificate.
+    Fact(Factor),
+    /// A multiple of a hypothesis, `V*@H` in a certificate.
+    Hypothesis {
+        /// The multiplier, of an absolute value up to 2^63 - 1.
+        value: i64,
+        /// The number of the hypothesis; those that are there are numbered from 1.
+        number: u32,
+    },
+}
+
+/// What a node of the case tree does.
+#[derive(Debug, Drop)]
+pub enum NodeForm {
+    /// Ends a branch: a sum of facts and hypotheses that no marking meets.
+    Close(Items<Multiplier>),
+    /// Ends a branch: a place whose least count passes its greatest.
+    Clash(PlaceRef),
+    /// Two branches: a weighted sum of tokens is at or below the limit, or above it.
+    Split {
+        /// The limit, of an absolute value up to 2^63 - 1.
+        limit: i64,
+        /// The weighted sum; a place that isn't listed has 0.
+        weights: Items<Weight>,
+    },
+    /// One branch for each item of a choice.
+    Cases {
+        /// The number of the choice; those that are there are numbered from 1.
+        choice: u32,
+        /// How many branches follow.
+        branches: u32,
+    },
+    /// One branch that serves each item of a choice.
+    Each {
+        /// The number of the choice; those that are there are numbered from 1.
+        choice: u32,
+    },
+}
+
+/// A node of the case tree.
+#[derive(Debug, Drop)]
+pub struct Node {
+    /// The number of its line, from 1.
+    pub line: u32,
+    /// What it does.
+    pub form: NodeForm,
+}
+
+/// A certificate of version 1.
+#[derive(Debug, Drop)]
+pub struct Cert {
+    /// The id of the property that it is for.
+    pub property: Name,
+    /// The facts in file order.
+    pub facts: Items<Fact>,
+    /// The nodes of the tree, each before its branches and those in order.
+    pub tree: Items<Node>,
+}

@@ -1,0 +1,65 @@
+use crate::certificates::{Factor, NodeForm, PlaceRef, Weight};
+use name_tables::Name;
+use sqlite_items::Items;
+
+/// The first words of the lines.
+#[derive(Clone, Copy, Debug, PartialEq, Eq)]
+pub enum Keyword {
+    Bound,
+    Cases,
+    Certificate,
+    Clash,
+    Close,
+    Each,
+    End,
+    Flow,
+    Proof,
+    Property,
+    Split,
+    Step,
+    Trap,
+}
+
+/// A transition instance: the id of the transition, and the index of the binding.
+#[derive(Debug, Drop, PartialEq, Eq, Hash)]
+pub struct Origin {
+    pub transition: Name,
+    pub binding: u32,
+}
+
+/// What a fact's own line claims.
+#[derive(Drop)]
+pub enum Claim {
+    Flow(Items<Weight>),
+    Trap(Items<PlaceRef>),
+    Bound { limit: i64, weights: Items<Weight> },
+}
+
+/// A step of a bound without the number of its line.
+#[derive(Drop)]
+pub struct StepClaim {
+    pub origin: Origin,
+    pub scale: i64,
+    pub keep: i64,
+    pub factors: Items<Factor>,
+}
+
+/// What one line says, without its number.
+#[derive(Drop)]
+pub enum Statement {
+    Version,
+    Property(Name),
+    Fact { name: Name, claim: Claim },
+    Step(StepClaim),
+    Proof,
+    Node(NodeForm),
+    End,
+}
+
+/// One line: passed over, out of form, or a statement.
+#[derive(Drop)]
+pub enum Line {
+    Passed,
+    Faulty,
+    Says(Statement),
+}

@@ -1,0 +1,80 @@
+-- Lists of facts that grow at their end.
+use Rattle.std.proofs.Common.{◌≡◌, ℕ, suc, ◌+◌, ◌<◌, Bool, true, false, cond, List, [], ◌∷◌, ◌++◌, length, map, Option, None, Some, refl, sym, ap, ◌∙◌, arith}
+use Rattle.std.specs.Prelude.{◌-◌, slice_get}
+use Rattle.std.specs.List.{list_any}
+use Rattle.std.specs.Str.{bytes_eq}
+use Rattle.std.proofs.lemmas.Bool.{true≢false, cond-false}
+use Rattle.std.proofs.lemmas.List.{map-append}
+use Rattle.cert_lines.specs.declared.certificates.Fact.{Fact}
+use Rattle.cert_lines.specs.declared.certificates.FactKind.{FactKind}
+use Rattle.cert_lines.specs.declared.certificates.FactKind.TheVariants.{Flow, Trap, Bound}
+use Rattle.cert_lines.specs.declared.certificates.Step.{Step}
+use Rattle.cert_lines.specs.declared.statements.Origin.{Origin}
+use Rattle.cert_reader.specs.Reading.{grown, is_bound, last_fact, names_of, origin_of, origins_of, same_origin, stepped, takes_steps, with_step}
+use Rattle.cert_lines.specs.Texts.{steps_of}
+
+pub last_of_grown : (facts : List Fact) (fact : Fact) → last_fact (facts ++ fact ∷ []) ≡ Some fact
+last_of_grown [] fact = refl
+last_of_grown (first ∷ []) fact = refl
+last_of_grown (first ∷ next ∷ later) fact = last_of_grown (next ∷ later) fact
+
+pub last_by_index : (facts : List Fact) → slice_get facts (length facts - 1) ≡ last_fact facts
+last_by_index [] = refl
+last_by_index (fact ∷ []) = refl
+last_by_index (fact ∷ next ∷ later) =
+    let there : length (fact ∷ next ∷ later) - 1 ≡ suc (length (next ∷ later) - 1) = omega arith in
+    rw there (last_by_index (next ∷ later))
+
+pub with_step_of_grown : (facts : List Fact) (fact : Fact) (step : Step) → with_step (facts ++ fact ∷ []) step ≡ facts ++ stepped fact step ∷ []
+with_step_of_grown [] fact step = refl
+with_step_of_grown (first ∷ []) fact step = refl
+with_step_of_grown (first ∷ next ∷ later) fact step = ap (λ fs. first ∷ fs) (with_step_of_grown (next ∷ later) fact step)
+
+pub names_with_step : (facts : List Fact) (step : Step) → names_of (with_step facts step) ≡ names_of facts
+names_with_step [] step = refl
+names_with_step (fact ∷ []) step = refl
+names_with_step (fact ∷ next ∷ later) step = ap (λ ns. fact.name ∷ ns) (names_with_step (next ∷ later) step)
+
+pub last_with_step : (facts : List Fact) (step : Step) → takes_steps (last_fact facts) ≡ true
+    → origins_of (last_fact (with_step facts step)) ≡ origins_of (last_fact facts) ++ origin_of step ∷ []
+last_with_step [] step bound = absurd (true≢false (sym bound))
+last_with_step (fact ∷ []) step bound = by fact.kind bound
+  where
+    by : (kind : FactKind) → is_bound kind ≡ true → map origin_of (steps_of (grown kind step)) ≡ map origin_of (steps_of kind) ++ origin_of step ∷ []
+    by (Flow weights) bound = absurd (true≢false (sym bound))
+    by (Trap places) bound = absurd (true≢false (sym bound))
+    by (Bound limit weights steps) bound = map-append origin_of steps (step ∷ [])
+last_with_step (fact ∷ next ∷ []) step bound = last_with_step (next ∷ []) step bound
+last_with_step (fact ∷ next ∷ third ∷ later) step bound = last_with_step (next ∷ third ∷ later) step bound
+
+pub names_of_grown : (facts : List Fact) (fact : Fact) → names_of (facts ++ fact ∷ []) ≡ names_of facts ++ fact.name ∷ []
+names_of_grown facts fact = map-append (λ f. f.name) facts (fact ∷ [])
+
+pub origins_of_grown : (facts : List Fact) (fact : Fact) → steps_of fact.kind ≡ [] → origins_of (last_fact (facts ++ fact ∷ [])) ≡ []
+origins_of_grown facts fact none = ap origins_of (last_of_grown facts fact) ∙ ap (map origin_of) none
+
+-- what an insertion of a new key leaves
+pub new_name : (keys : List (List ℕ)) (facts : List Fact) (fact : Fact) (name : List ℕ) (after : List (List ℕ))
+    → keys ≡ names_of facts → name ≡ fact.name → list_any (bytes_eq fact.name) (names_of facts) ≡ false
+    → after ≡ cond (list_any (bytes_eq name) keys) keys (keys ++ name ∷ []) → after ≡ names_of (facts ++ fact ∷ [])
+new_name keys facts fact name after known is fresh put =
+    put
+    ∙ cond-false _ _ _ (ap (λ n. list_any (bytes_eq n) keys) is ∙ ap (list_any (bytes_eq fact.name)) known ∙ fresh)
+    ∙ ap (λ n. keys ++ n ∷ []) is
+    ∙ ap (λ ks. ks ++ fact.name ∷ []) known
+    ∙ sym (names_of_grown facts fact)
+
+pub new_origin : (keys : List Origin) (facts : List Fact) (step : Step) (origin : Origin) (after : List Origin)
+    → keys ≡ origins_of (last_fact facts) → origin ≡ origin_of step → takes_steps (last_fact facts) ≡ true
+    → list_any (same_origin (origin_of step)) (origins_of (last_fact facts)) ≡ false
+    → after ≡ cond (list_any (same_origin origin) keys) keys (keys ++ origin ∷ []) → after ≡ origins_of (last_fact (with_step facts step))
+new_origin keys facts step origin after known is bound fresh put =
+    put
+    ∙ cond-false _ _ _ (ap (λ o. list_any (same_origin o) keys) is ∙ ap (list_any (same_origin (origin_of step))) known ∙ fresh)
+    ∙ ap (λ o. keys ++ o ∷ []) is
+    ∙ ap (λ ks. ks ++ origin_of step ∷ []) known
+    ∙ sym (last_with_step facts step bound)
+
+pub origin_with : (step : Step) (transition : List ℕ) → transition ≡ step.transition
+    → ◌≡◌ {A = Origin} (record { transition = transition; binding = step.binding }) (origin_of step)
+origin_with step transition is = ap (λ t. (λ (o : Origin). o) (record { transition = t; binding = step.binding })) is

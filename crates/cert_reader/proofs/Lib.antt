@@ -1,0 +1,2 @@
+mod FactLists
+mod LineCuts

@@ -1,0 +1,312 @@
+-- Which lines a certificate has, in which order, and the first fault.
+use Rattle.std.specs.Prelude.{ℕ, zero, suc, Bool, true, false, ◌&&◌, ◌||◌, ◌-◌, ◌+◌, ◌^◌, nat_eq, nat_le, List, [], ◌∷◌, ◌++◌, length, map, Option, None, Some, Result, Ok, Err, if◌then◌else◌, ◌≡◌}
+use Rattle.std.specs.Bool.{⊤}
+use Rattle.std.specs.List.{list_any}
+use Rattle.std.specs.Str.{bytes_eq}
+use Rattle.cert_lines.specs.Texts.{steps_of}
+use Rattle.cert_lines.specs.Words.{lines_of}
+use Rattle.cert_lines.specs.Statements.{line_of}
+use Rattle.cert_lines.specs.Sums.{are_past, factor_amount, multiplier_amount, weight_amount}
+use Rattle.cert_lines.specs.declared.certificates.Cert.{Cert}
+use Rattle.cert_lines.specs.declared.certificates.Fact.{Fact}
+use Rattle.cert_lines.specs.declared.certificates.FactKind.{FactKind}
+use Rattle.cert_lines.specs.declared.certificates.FactKind.TheVariants.{Flow, Trap, Bound}
+use Rattle.cert_lines.specs.declared.certificates.Step.{Step}
+use Rattle.cert_lines.specs.declared.certificates.Node.{Node}
+use Rattle.cert_lines.specs.declared.certificates.NodeForm.{NodeForm}
+use Rattle.cert_lines.specs.declared.certificates.NodeForm.TheVariants.{Close, Clash, Split, Cases, Each}
+use Rattle.cert_reader.specs.declared.faults.CertFault.{CertFault}
+use Rattle.cert_reader.specs.declared.faults.CertFault.TheVariants as fault
+use Rattle.cert_lines.specs.declared.statements.Claim.{Claim}
+use Rattle.cert_lines.specs.declared.statements.Claim.TheVariants as claim
+use Rattle.cert_lines.specs.declared.statements.Line.{Line}
+use Rattle.cert_lines.specs.declared.statements.Line.TheVariants.{Passed, Faulty, Says}
+use Rattle.cert_lines.specs.declared.statements.Origin.{Origin}
+use Rattle.cert_reader.specs.declared.stages.Stage.{Stage}
+use Rattle.cert_reader.specs.declared.stages.Stage.TheVariants as stage
+use Rattle.cert_lines.specs.declared.statements.Statement.{Statement}
+use Rattle.cert_lines.specs.declared.statements.Statement.TheVariants as say
+use Rattle.cert_lines.specs.declared.statements.StepClaim.{StepClaim}
+
+-- a certificate of which some lines have been read: what is to come next, what there is, and how many branches of each
+-- open node are to come, the innermost first
+pub record DraftState : Type 0 where
+  pub stage : Stage
+  pub property : List ℕ
+  pub facts : List Fact
+  pub tree : List Node
+  pub opens : List ℕ
+
+abbrev pub nothing_read : DraftState
+nothing_read = record { stage = stage.Version; property = []; facts = []; tree = []; opens = [] }
+
+-- the last fact, its steps, and whether steps may follow it
+abbrev pub last_fact : List Fact → Option Fact
+last_fact [] = None
+last_fact (fact ∷ []) = Some fact
+last_fact (fact ∷ next ∷ later) = last_fact (next ∷ later)
+
+abbrev pub is_bound : FactKind → Bool
+is_bound (Flow weights) = false
+is_bound (Trap places) = false
+is_bound (Bound limit weights steps) = true
+
+abbrev pub takes_steps : Option Fact → Bool
+takes_steps None = false
+takes_steps (Some fact) = is_bound fact.kind
+
+abbrev pub origin_of : Step → Origin
+origin_of step = record { transition = step.transition; binding = step.binding }
+
+abbrev pub origins_of : Option Fact → List Origin
+origins_of None = []
+origins_of (Some fact) = map origin_of (steps_of fact.kind)
+
+abbrev pub same_origin : Origin → Origin → Bool
+same_origin a b = bytes_eq a.transition b.transition && nat_eq a.binding b.binding
+
+abbrev pub names_of : List Fact → List (List ℕ)
+names_of facts = map (λ fact. fact.name) facts
+
+-- the order: the version, the property, facts, each bound with its steps, `proof`, one tree, `end`, and nothing more
+abbrev pub is_version : Statement → Bool
+is_version say.Version = true
+is_version (say.Property id) = false
+is_version (say.Fact name said) = false
+is_version (say.Step step) = false
+is_version say.Proof = false
+is_version (say.Node form) = false
+is_version say.End = false
+
+abbrev pub is_property : Statement → Bool
+is_property say.Version = false
+is_property (say.Property id) = true
+is_property (say.Fact name said) = false
+is_property (say.Step step) = false
+is_property say.Proof = false
+is_property (say.Node form) = false
+is_property say.End = false
+
+abbrev pub may_follow : List Fact → Statement → Bool
+may_follow facts say.Version = false
+may_follow facts (say.Property id) = false
+may_follow facts (say.Fact name said) = true
+may_follow facts (say.Step step) = takes_steps (last_fact facts)
+may_follow facts say.Proof = true
+may_follow facts (say.Node form) = false
+may_follow facts say.End = false
+
+abbrev pub is_node : Statement → Bool
+is_node say.Version = false
+is_node (say.Property id) = false
+is_node (say.Fact name said) = false
+is_node (say.Step step) = false
+is_node say.Proof = false
+is_node (say.Node form) = true
+is_node say.End = false
+
+abbrev pub is_end : Statement → Bool
+is_end say.Version = false
+is_end (say.Property id) = false
+is_end (say.Fact name said) = false
+is_end (say.Step step) = false
+is_end say.Proof = false
+is_end (say.Node form) = false
+is_end say.End = true
+
+abbrev pub may_stand_at : Stage → List Fact → Statement → Bool
+may_stand_at stage.Version facts statement = is_version statement
+may_stand_at stage.Property facts statement = is_property statement
+may_stand_at stage.Facts facts statement = may_follow facts statement
+may_stand_at stage.Tree facts statement = is_node statement
+may_stand_at stage.End facts statement = is_end statement
+may_stand_at stage.Nothing facts statement = false
+
+abbrev pub may_stand : DraftState → Statement → Bool
+may_stand draft statement = may_stand_at draft.stage draft.facts statement
+
+-- a fact whose name an earlier fact has, or a step at a transition instance that an earlier step of the bound has
+abbrev pub is_repeated : DraftState → Statement → Bool
+is_repeated draft say.Version = false
+is_repeated draft (say.Property id) = false
+is_repeated draft (say.Fact name said) = list_any (bytes_eq name) (names_of draft.facts)
+is_repeated draft (say.Step step) = list_any (same_origin step.origin) (origins_of (last_fact draft.facts))
+is_repeated draft say.Proof = false
+is_repeated draft (say.Node form) = false
+is_repeated draft say.End = false
+
+-- the absolute values of a line, each with what it stands on
+abbrev pub claim_amounts : Claim → List (List ℕ × ℕ)
+claim_amounts (claim.Flow weights) = map weight_amount weights
+claim_amounts (claim.Trap places) = []
+claim_amounts (claim.Bound limit weights) = map weight_amount weights
+
+abbrev pub node_amounts : NodeForm → List (List ℕ × ℕ)
+node_amounts (Close multipliers) = map multiplier_amount multipliers
+node_amounts (Clash place) = []
+node_amounts (Split limit weights) = map weight_amount weights
+node_amounts (Cases choice branches) = []
+node_amounts (Each choice) = []
+
+abbrev pub amounts_of : Statement → List (List ℕ × ℕ)
+amounts_of say.Version = []
+amounts_of (say.Property id) = []
+amounts_of (say.Fact name said) = claim_amounts said
+amounts_of (say.Step step) = map factor_amount step.factors
+amounts_of say.Proof = []
+amounts_of (say.Node form) = node_amounts form
+amounts_of say.End = []
+
+-- the 1,048,577th node, and a node at depth 257, below 256 open ones
+abbrev pub is_past_limits : DraftState → Statement → Bool
+is_past_limits draft say.Version = false
+is_past_limits draft (say.Property id) = false
+is_past_limits draft (say.Fact name said) = false
+is_past_limits draft (say.Step step) = false
+is_past_limits draft say.Proof = false
+is_past_limits draft (say.Node form) = nat_le (2 ^ 20) (length draft.tree) || nat_le 256 (length draft.opens)
+is_past_limits draft say.End = false
+
+-- how many branches follow a node
+abbrev pub branches_of : NodeForm → ℕ
+branches_of (Close multipliers) = 0
+branches_of (Clash place) = 0
+branches_of (Split limit weights) = 2
+branches_of (Cases choice branches) = branches
+branches_of (Each choice) = 1
+
+-- the open nodes after a node: it is one branch of the innermost, and those without a branch to come are closed
+abbrev pub one_less : List ℕ → List ℕ
+one_less [] = []
+one_less (count ∷ counts) = (count - 1) ∷ counts
+
+abbrev pub still_open : List ℕ → List ℕ
+still_open [] = []
+still_open (zero ∷ counts) = still_open counts
+still_open (suc count ∷ counts) = suc count ∷ counts
+
+abbrev pub opens_after : ℕ → List ℕ → List ℕ
+opens_after branches opens = still_open (branches ∷ one_less opens)
+
+abbrev pub stage_after : List ℕ → Stage
+stage_after [] = stage.End
+stage_after (count ∷ counts) = stage.Tree
+
+-- the facts with one more step of the last one
+abbrev pub grown : FactKind → Step → FactKind
+grown (Flow weights) step = Flow weights
+grown (Trap places) step = Trap places
+grown (Bound limit weights steps) step = Bound limit weights (steps ++ step ∷ [])
+
+abbrev pub stepped : Fact → Step → Fact
+stepped fact step = record { line = fact.line; name = fact.name; kind = grown fact.kind step }
+
+abbrev pub with_step : List Fact → Step → List Fact
+with_step [] step = []
+with_step (fact ∷ []) step = stepped fact step ∷ []
+with_step (fact ∷ next ∷ later) step = fact ∷ with_step (next ∷ later) step
+
+abbrev pub step_at : ℕ → StepClaim → Step
+step_at number step = record {
+  line = number;
+  transition = step.origin.transition;
+  binding = step.origin.binding;
+  scale = step.scale;
+  keep = step.keep;
+  factors = step.factors;
+}
+
+abbrev pub node_at : ℕ → NodeForm → Node
+node_at number form = record { line = number; form = form }
+
+-- a bound has no steps yet
+abbrev pub kind_of : Claim → FactKind
+kind_of (claim.Flow weights) = Flow weights
+kind_of (claim.Trap places) = Trap places
+kind_of (claim.Bound limit weights) = Bound limit weights []
+
+abbrev pub fact_at : ℕ → List ℕ → Claim → Fact
+fact_at number name said = record { line = number; name = name; kind = kind_of said }
+
+-- the draft after a statement
+abbrev pub at_stage : DraftState → Stage → DraftState
+at_stage draft next = record { stage = next; property = draft.property; facts = draft.facts; tree = draft.tree; opens = draft.opens }
+
+abbrev pub with_property : DraftState → List ℕ → DraftState
+with_property draft id = record { stage = stage.Facts; property = id; facts = draft.facts; tree = draft.tree; opens = draft.opens }
+
+abbrev pub with_facts : DraftState → List Fact → DraftState
+with_facts draft facts = record { stage = draft.stage; property = draft.property; facts = facts; tree = draft.tree; opens = draft.opens }
+
+abbrev pub with_node : DraftState → Node → List ℕ → DraftState
+with_node draft node opens = record {
+  stage = stage_after opens;
+  property = draft.property;
+  facts = draft.facts;
+  tree = draft.tree ++ node ∷ [];
+  opens = opens;
+}
+
+abbrev pub after : ℕ → DraftState → Statement → DraftState
+after number draft say.Version = at_stage draft stage.Property
+after number draft (say.Property id) = with_property draft id
+after number draft (say.Fact name said) = with_facts draft (draft.facts ++ fact_at number name said ∷ [])
+after number draft (say.Step step) = with_facts draft (with_step draft.facts (step_at number step))
+after number draft say.Proof = at_stage draft stage.Tree
+after number draft (say.Node form) = with_node draft (node_at number form) (opens_after (branches_of form) draft.opens)
+after number draft say.End = at_stage draft stage.Nothing
+
+-- a line: its faults in their order, or the draft after it
+abbrev pub take_statement : ℕ → DraftState → Statement → Result DraftState CertFault
+take_statement number draft statement =
+    if may_stand draft statement then
+    (if is_repeated draft statement then Err (fault.Repeated number) else
+    if are_past (amounts_of statement) then Err (fault.Coefficient number) else
+    if is_past_limits draft statement then Err (fault.CertLimit number) else
+    Ok (after number draft statement))
+    else Err (fault.Line number)
+
+abbrev pub take_said : ℕ → DraftState → Line → Result DraftState CertFault
+take_said number draft Passed = Ok draft
+take_said number draft Faulty = Err (fault.Line number)
+take_said number draft (Says statement) = take_statement number draft statement
+
+abbrev pub take_line : ℕ → DraftState → List ℕ → Result DraftState CertFault
+take_line number draft bytes = take_said number draft (line_of bytes)
+
+abbrev pub cert_of : DraftState → Cert
+cert_of draft = record { property = draft.property; facts = draft.facts; tree = draft.tree }
+
+-- at the end of the lines; `number` is that of the line after the last
+abbrev pub finished_at : Stage → ℕ → DraftState → Result Cert CertFault
+finished_at stage.Version number draft = Err (fault.Line number)
+finished_at stage.Property number draft = Err (fault.Line number)
+finished_at stage.Facts number draft = Err (fault.Line number)
+finished_at stage.Tree number draft = Err (fault.Line number)
+finished_at stage.End number draft = Err (fault.Line number)
+finished_at stage.Nothing number draft = Ok (cert_of draft)
+
+abbrev pub finished : ℕ → DraftState → Result Cert CertFault
+finished number draft = finished_at draft.stage number draft
+
+-- what the lines give from the line `number` on, the first fault or the certificate
+abbrev pub going_on : Result DraftState CertFault → (DraftState → Result Cert CertFault) → Result Cert CertFault
+going_on (Ok draft) later = later draft
+going_on (Err fault) later = Err fault
+
+abbrev pub read_lines : ℕ → DraftState → List (List ℕ) → Result Cert CertFault
+read_lines number draft [] = finished number draft
+read_lines number draft (line ∷ lines) = going_on (take_line number draft line) (λ next. read_lines (number + 1) next lines)
+
+-- the certificate that the bytes spell, or their first fault
+abbrev pub certificate_of : List ℕ → Result Cert CertFault
+certificate_of bytes = read_lines 1 nothing_read (lines_of bytes)
+
+-- an answer is the expected one, or want of memory
+abbrev pub IsAnswer : {A : Type 0} → Result A CertFault → Result A CertFault → Type 0
+IsAnswer (Ok value) expected = expected ≡ Ok value
+IsAnswer (Err (fault.Line number)) expected = expected ≡ Err (fault.Line number)
+IsAnswer (Err (fault.Repeated number)) expected = expected ≡ Err (fault.Repeated number)
+IsAnswer (Err (fault.Coefficient number)) expected = expected ≡ Err (fault.Coefficient number)
+IsAnswer (Err (fault.CertLimit number)) expected = expected ≡ Err (fault.CertLimit number)
+IsAnswer (Err fault.Memory) expected = ⊤

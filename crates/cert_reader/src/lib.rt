@@ -1,0 +1,18 @@
+//! Certificates, read in pieces and written.
+#![tactic(auto)]
+
+mod drafts;
+mod facts;
+mod faults;
+mod opens;
+mod reader;
+mod stages;
+
+pub use cert_lines::{
+    Cert, Fact, FactKind, Factor, Multiplier, Node, NodeForm, PlaceRef, Step, Weight, write_cert,
+};
+pub use faults::CertFault;
+pub use reader::{CertReader, read_cert};
+
+#[cfg(test)]
+mod tests;
