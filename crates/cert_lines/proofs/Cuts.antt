@@ -1,5 +1,5 @@
 -- How the cuts of the code are those of the definitions.
-use Rattle.std.proofs.Common.{◌≡◌, ℕ, zero, suc, ◌+◌, ◌<◌, Bool, true, false, cond, not, nat_lt, List, [], ◌∷◌, ◌++◌, length, filter, take, drop, Option, None, Some, refl, sym, ap, ◌∙◌, arith, slice_index, subst}
+use Rattle.std.proofs.Common.{◌≡◌, ℕ, zero, suc, ◌+◌, ◌<◌, Bool, true, false, cond, not, List, [], ◌∷◌, ◌++◌, length, filter, take, drop, None, Some, refl, sym, ap, ◌∙◌, arith, slice_index, subst}
 use Rattle.std.specs.Prelude.{◌==◌, ◌≤◌, if◌then◌else◌}
 use Rattle.std.specs.List.{position_or_len}
 use Rattle.std.proofs.lemmas.Bool.{false_from_ne_true}

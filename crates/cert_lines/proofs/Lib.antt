@@ -1,2 +1,5 @@
 mod Amounts
 mod Cuts
+mod LinesAgain
+mod PartsAgain
+mod Spoken

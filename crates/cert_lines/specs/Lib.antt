@@ -3,3 +3,4 @@ pub mod Statements
 pub mod Sums
 pub mod Texts
 pub mod Words
+pub mod Written

@@ -1,5 +1,5 @@
 -- What the words after the first one of a line say.
-use Rattle.std.specs.Prelude.{ℕ, ℤ, pos, negsuc, Bool, true, false, ◌==◌, ◌^◌, nat_lt, List, [], ◌∷◌, drop, slice_index, Option, None, Some, if◌then◌else◌}
+use Rattle.std.specs.Prelude.{ℕ, ℤ, pos, negsuc, true, false, ◌==◌, ◌^◌, nat_lt, List, [], ◌∷◌, drop, slice_index, Option, None, Some, if◌then◌else◌}
 use Rattle.std.specs.Option.{option_map}
 use Rattle.name_tables.specs.Grammar.{is_id_text, number_of}
 use Rattle.cert_lines.specs.Words.{before_mark, behind_mark}

@@ -1,9 +1,11 @@
 -- What one line says: its first word, and the words after it.
-use Rattle.std.specs.Prelude.{ℕ, ℤ, Bool, true, false, ◌==◌, List, [], ◌∷◌, slice_index, Option, None, Some, codes, if◌then◌else◌}
+use Rattle.std.specs.Prelude.{ℕ, ℤ, Bool, true, ◌==◌, List, [], ◌∷◌, slice_get, slice_index, Option, None, Some, codes, if◌then◌else◌}
 use Rattle.std.specs.Bool.{⊤}
 use Rattle.std.specs.Option.{option_map}
 use Rattle.std.specs.Str.{bytes_eq, is_utf8}
 use Rattle.name_tables.specs.Grammar.{number_of}
+use Rattle.name_tables.specs.Numbering.{number_in}
+use Rattle.name_tables.specs.Tables.{words_of_certificates}
 use Rattle.cert_lines.specs.Words.{words_of}
 use Rattle.cert_lines.specs.Parts.{all_of, factor_of, id_of, index_of, instance_of, multiplier_of, place_of, weight_of}
 use Rattle.cert_lines.specs.declared.certificates.Weight.{Weight}
@@ -18,23 +20,18 @@ use Rattle.cert_lines.specs.declared.statements.Statement.TheVariants.{Version, 
 use Rattle.cert_lines.specs.declared.statements.Line.{Line}
 use Rattle.cert_lines.specs.declared.statements.Line.TheVariants.{Passed, Faulty, Says}
 
--- the first words
+-- the first words, in the order of their table
+abbrev pub keywords : List Keyword
+keywords =
+    first.Bound ∷ first.Cases ∷ first.Certificate ∷ first.Clash ∷ first.Close ∷ first.Each ∷ first.End ∷ first.Flow ∷ first.Proof ∷
+    first.Property ∷ first.Split ∷ first.Step ∷ first.Trap ∷ []
+
+abbrev pub keyword_at : Option ℕ → Option Keyword
+keyword_at None = None
+keyword_at (Some place) = slice_get keywords place
+
 abbrev pub keyword_of : List ℕ → Option Keyword
-keyword_of word =
-    if bytes_eq word (codes "bound") then Some first.Bound else
-    if bytes_eq word (codes "cases") then Some first.Cases else
-    if bytes_eq word (codes "certificate") then Some first.Certificate else
-    if bytes_eq word (codes "clash") then Some first.Clash else
-    if bytes_eq word (codes "close") then Some first.Close else
-    if bytes_eq word (codes "each") then Some first.Each else
-    if bytes_eq word (codes "end") then Some first.End else
-    if bytes_eq word (codes "flow") then Some first.Flow else
-    if bytes_eq word (codes "proof") then Some first.Proof else
-    if bytes_eq word (codes "property") then Some first.Property else
-    if bytes_eq word (codes "split") then Some first.Split else
-    if bytes_eq word (codes "step") then Some first.Step else
-    if bytes_eq word (codes "trap") then Some first.Trap else
-    None
+keyword_of word = keyword_at (number_in words_of_certificates word)
 
 -- no words, and exactly one word
 abbrev pub alone : Statement → List (List ℕ) → Option Statement

@@ -1,5 +1,5 @@
 -- The absolute values on one line, added up by what they stand on.
-use Rattle.std.specs.Prelude.{ℕ, ℤ, Bool, ◌^◌, ◌-◌, nat_lt, List, [], ◌∷◌, map, sum_by, unsigned_abs, decimal, Option, None, Some, if◌then◌else◌}
+use Rattle.std.specs.Prelude.{ℕ, Bool, ◌^◌, ◌-◌, nat_lt, List, ◌∷◌, sum_by, unsigned_abs, decimal, Option, None, Some, if◌then◌else◌}
 use Rattle.std.specs.List.{list_any}
 use Rattle.std.specs.Str.{bytes_eq}
 use Rattle.cert_lines.specs.declared.certificates.Weight.{Weight}

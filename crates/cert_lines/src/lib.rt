@@ -2,6 +2,7 @@
 #![tactic(auto)]
 
 mod certificates;
+mod laws;
 mod lines;
 mod lists;
 mod parts;
@@ -13,6 +14,7 @@ mod words;
 pub use certificates::{
     Cert, Fact, FactKind, Factor, Multiplier, Node, NodeForm, PlaceRef, Step, Weight,
 };
+pub use laws::written_line_is_read;
 pub use lines::read_line;
 pub use statements::{Claim, Line, Origin, Statement, StepClaim};
 pub use sums::{Valued, is_past};

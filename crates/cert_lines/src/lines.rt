@@ -7,7 +7,7 @@ use crate::lists::read_list;
 use crate::parts::{read_id, read_index, read_instance, read_place};
 use crate::statements::{Claim, Keyword, Line, Origin, Statement, StepClaim};
 use crate::words::Words;
-use name_tables::read_number;
+use name_tables::{cert_words, read_number};
 use std::alloc::Global;
 use std::str;
 use wide_sums::Memory;
@@ -54,38 +54,30 @@ fn read_statement(
     }
 }
 
+/// The first words of the lines, in the order of their table.
+const KEYWORDS: [Keyword; 13] = [
+    Keyword::Bound,
+    Keyword::Cases,
+    Keyword::Certificate,
+    Keyword::Clash,
+    Keyword::Close,
+    Keyword::Each,
+    Keyword::End,
+    Keyword::Flow,
+    Keyword::Proof,
+    Keyword::Property,
+    Keyword::Split,
+    Keyword::Step,
+    Keyword::Trap,
+];
+
 /// The first word of a line.
 pub fn read_keyword(word: &[u8]) -> Option<Keyword>
     ensures { result ≡ keyword_of word.now }
 {
-    if word == b"bound".as_slice() {
-        Some(Keyword::Bound)
-    } else if word == b"cases".as_slice() {
-        Some(Keyword::Cases)
-    } else if word == b"certificate".as_slice() {
-        Some(Keyword::Certificate)
-    } else if word == b"clash".as_slice() {
-        Some(Keyword::Clash)
-    } else if word == b"close".as_slice() {
-        Some(Keyword::Close)
-    } else if word == b"each".as_slice() {
-        Some(Keyword::Each)
-    } else if word == b"end".as_slice() {
-        Some(Keyword::End)
-    } else if word == b"flow".as_slice() {
-        Some(Keyword::Flow)
-    } else if word == b"proof".as_slice() {
-        Some(Keyword::Proof)
-    } else if word == b"property".as_slice() {
-        Some(Keyword::Property)
-    } else if word == b"split".as_slice() {
-        Some(Keyword::Split)
-    } else if word == b"step".as_slice() {
-        Some(Keyword::Step)
-    } else if word == b"trap".as_slice() {
-        Some(Keyword::Trap)
-    } else {
-        None
+    match cert_words().find(word) {
+        Some(place) => Some(KEYWORDS[place as usize]),
+        None => None,
     }
 }
 

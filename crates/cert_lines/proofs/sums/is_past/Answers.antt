@@ -1,4 +1,4 @@
-use Rattle.std.proofs.Common.{◌≡◌, sym, map, rules}
+use Rattle.std.proofs.Common.{sym, map, rules}
 use Rattle.cert_lines.proofs.Amounts.{few_past}
 use Rattle.cert_lines.proofs.sums.is_past.Goals as goal
 

@@ -1,8 +1,6 @@
-use Rattle.std.proofs.Common.{◌≡◌, ◌∙◌, ap, sym, subst, ◌<◌, ◌≤◌, ◌+◌, ◌^◌, length, map, take, List, ℕ, arith}
-use Rattle.std.specs.Str.{bytes_eq}
+use Rattle.std.proofs.Common.{◌≡◌, ◌∙◌, ap, sym, subst, ◌<◌, ◌≤◌, ◌+◌, ◌^◌, map, take, arith}
 use Rattle.std.proofs.lemmas.List.{length-map, take_all}
-use Rattle.indexmap.specs.IndexMap.{get}
-use Rattle.cert_lines.specs.Sums.{or_zero, share, sum_on}
+use Rattle.cert_lines.specs.Sums.{share, sum_on}
 use Rattle.cert_lines.proofs.Amounts.{none_past, one_more, one_past}
 use Rattle.cert_lines.proofs.sums.is_past_by_name.Goals as goal
 

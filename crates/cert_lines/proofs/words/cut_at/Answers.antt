@@ -1,4 +1,4 @@
-use Rattle.std.proofs.Common.{sym, ◌∙◌, ap, ◌≡◌, ◌-◌, ◌+◌, take, drop, length, Some, suc, arith, ◌≤◌}
+use Rattle.std.proofs.Common.{sym, ◌≡◌, ◌+◌, suc, arith}
 use Rattle.std.proofs.lemmas.List.{take_rest}
 use Rattle.cert_lines.proofs.Cuts.{mark-at, mark-none}
 use Rattle.cert_lines.proofs.words.cut_at.Goals as goal

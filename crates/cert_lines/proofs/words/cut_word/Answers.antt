@@ -1,4 +1,4 @@
-use Rattle.std.proofs.Common.{sym, ◌∙◌, ap, subst, ◌≡◌, ◌∷◌, take, drop, List, ℕ}
+use Rattle.std.proofs.Common.{sym, subst, ◌≡◌, ◌∷◌, take, drop}
 use Rattle.cert_lines.specs.Words.{words_of}
 use Rattle.cert_lines.proofs.Cuts.{words-cut}
 use Rattle.cert_lines.proofs.words.cut_word.Goals as goal

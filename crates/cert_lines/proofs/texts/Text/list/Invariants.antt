@@ -1,4 +1,4 @@
-use Rattle.std.proofs.Common.{◌≡◌, ◌++◌, flat_map, take}
+use Rattle.std.proofs.Common.{◌≡◌, ◌++◌, take}
 use Rattle.cert_lines.specs.Texts.{all_spaced}
 use Rattle.cert_lines.proofs.texts.Text.list.Given as goal
 

@@ -1,0 +1,53 @@
+//! Reads one file with the reader of certificates, so that its time and memory can be measured.
+//!
+//! `cert_probe FILE` prints what the bytes are: `certificate`, or the kind of the first fault and its line.
+#![tactic(auto)]
+
+ghost use Rattle.std.specs.Prelude.{◌≤◌, ◌^◌, length};
+ghost use Rattle.cert_reader.specs.Reading.{IsAnswer, certificate_of};
+
+use cert_reader::{Cert, CertFault, read_cert};
+use host_io::HostFiles;
+use name_tables::Name;
+use pnml_inputs::{MAX_BYTES, Role, read_input};
+use std::alloc::Global;
+use std::env;
+use std::process::ExitCode;
+
+/// The certificate that the bytes spell, or their first fault.
+fn certificate(alloc: Global, bytes: &[u8]) -> Result<Cert, CertFault>
+    requires { length bytes.now ≤ 2 ^ 26 }
+    ensures { IsAnswer result (certificate_of bytes.now) }
+{
+    read_cert(alloc, bytes)
+}
+
+fn main(rt: HostRuntime) -> ExitCode {
+    let Ok(mut args) = env::args(&rt) else {
+        return ExitCode::from(5);
+    };
+    args.next();
+    let Some(file) = args.next() else {
+        return ExitCode::from(5);
+    };
+    let mut files = HostFiles::new(rt);
+    let name = Name::from(file.into_bytes());
+    let Ok(bytes) = read_input(rt.alloc(), Role::Cert, &name, &mut files) else {
+        return ExitCode::from(3);
+    };
+    if bytes.len() > MAX_BYTES {
+        return ExitCode::from(3);
+    }
+    let printed = match certificate(rt.alloc(), bytes.as_slice()) {
+        Ok(_) => println!(rt; "certificate"),
+        Err(CertFault::Line { number }) => println!(rt; "line {number}"),
+        Err(CertFault::Repeated { number }) => println!(rt; "repeated {number}"),
+        Err(CertFault::Coefficient { number }) => println!(rt; "coefficient {number}"),
+        Err(CertFault::CertLimit { number }) => println!(rt; "limit {number}"),
+        Err(CertFault::Memory) => return ExitCode::from(4),
+    };
+    match printed {
+        Ok(()) => ExitCode::from(0),
+        Err(_) => ExitCode::from(3),
+    }
+}
