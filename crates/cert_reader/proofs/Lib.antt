@@ -1,2 +1,4 @@
 mod FactLists
 mod LineCuts
+mod Unnumbered
+mod WrittenTexts

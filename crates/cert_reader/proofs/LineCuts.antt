@@ -4,7 +4,7 @@ use Rattle.std.specs.Prelude.{◌==◌, if◌then◌else◌}
 use Rattle.std.specs.Option.{option_copied}
 use Rattle.std.proofs.lemmas.Bool.{eqb-true}
 use Rattle.std.proofs.lemmas.List.{append_assoc, append-nil}
-use Rattle.cert_lines.specs.Words.{before_mark, behind_mark, if_some_text, lines_of, longer, pieces, without_last_empty}
+use Rattle.cert_lines.specs.Words.{before_mark, behind_mark, lines_of, longer, pieces, without_last_empty}
 use Rattle.cert_reader.specs.Reading.{DraftState, IsAnswer, certificate_of, finished, going_on, read_lines, take_line}
 use Rattle.cert_reader.specs.Pieces.{IsFault, ReaderState, StandsFor, what_follows}
 use Rattle.cert_lines.specs.declared.certificates.Cert.{Cert}

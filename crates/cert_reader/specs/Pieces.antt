@@ -1,5 +1,5 @@
 -- A reader that is fed a certificate piece by piece.
-use Rattle.std.specs.Prelude.{ℕ, List, [], ◌∷◌, ◌++◌, Result, Ok, Err, ◌≡◌}
+use Rattle.std.specs.Prelude.{ℕ, List, ◌++◌, Result, Err, ◌≡◌}
 use Rattle.std.specs.Bool.{⊤}
 use Rattle.cert_lines.specs.Words.{lines_of}
 use Rattle.cert_reader.specs.Reading.{DraftState, certificate_of, going_on, read_lines}

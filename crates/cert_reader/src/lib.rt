@@ -4,6 +4,7 @@
 mod drafts;
 mod facts;
 mod faults;
+mod laws;
 mod opens;
 mod reader;
 mod stages;
@@ -12,6 +13,7 @@ pub use cert_lines::{
     Cert, Fact, FactKind, Factor, Multiplier, Node, NodeForm, PlaceRef, Step, Weight, write_cert,
 };
 pub use faults::CertFault;
+pub use laws::written_certificate_is_read;
 pub use reader::{CertReader, read_cert};
 
 #[cfg(test)]

@@ -1,4 +1,4 @@
-use Rattle.cert_reader.proofs.LineCuts.{cut_parts, line_ended}
+use Rattle.cert_reader.proofs.LineCuts.{cut_parts}
 use Rattle.cert_reader.proofs.reader.cut_line.Goals as goal
 
 pub returns : goal.returns

@@ -1,7 +1,4 @@
-use Rattle.std.proofs.Common.{◌∙◌, ap, sym, subst, ◌≡◌, ◌∷◌, ◌++◌, ◌+◌, List, ℕ, Err, IfErr}
-use Rattle.cert_reader.specs.Pieces.{IsFault, what_follows}
-use Rattle.cert_reader.specs.Reading.{read_lines}
-use Rattle.cert_lines.specs.Words.{lines_of}
+use Rattle.std.proofs.Common.{sym}
 use Rattle.cert_reader.proofs.LineCuts.{fault_line, follow_line}
 use Rattle.cert_reader.proofs.reader.CertReader.end_line.Goals as goal
 

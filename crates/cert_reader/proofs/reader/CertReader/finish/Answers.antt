@@ -1,4 +1,4 @@
-use Rattle.std.proofs.Common.{◌∙◌, ap, sym, subst, ◌≡◌, List, ℕ, Err}
+use Rattle.std.proofs.Common.{◌∙◌, ap, sym, subst, Err}
 use Rattle.cert_reader.specs.Reading.{IsAnswer, certificate_of, read_lines}
 use Rattle.cert_reader.specs.Pieces.{StandsFor}
 use Rattle.cert_lines.specs.Words.{lines_of}
