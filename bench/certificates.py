@@ -14,6 +14,8 @@ import sys
 import tempfile
 import time
 
+from made_files import made
+
 MB = 1_000_000
 HEAD = b"certificate 1\nproperty P\n"
 TAIL = b"proof\nclose\nend\n"
@@ -24,7 +26,7 @@ def facts(size):
     lines = []
     for k in range(size // 60):
         if k % 3 == 2:
-            lines.append(b"bound f%07d -12 1*p%07d\nstep t%06d@%07d 1 0 -1*f%07d\n" % (k, k, k % 1000, k, k - 1))
+            lines.append(b"bound f%07d 1 1*p%07d\nstep t%03d@%07d 1 0 1*f%07d\n" % (k, k, k % 1000, k, k - 1))
         elif k % 3 == 1:
             lines.append(b"trap f%07d p%07d p%07d@3 q%07d@12 r%07d p%07d\n" % (k, k, k + 1, k, k, k + 2))
         else:
@@ -57,16 +59,6 @@ def name(size):
 def passed(size):
     """One line that is passed over."""
     return HEAD + b"#" + b" word" * (size // 5) + b"\n" + TAIL
-
-
-def made(maker, size, path):
-    """Writes the file in a process of its own, whose memory isn't counted with that of the runs."""
-    child = os.fork()
-    if child == 0:
-        with open(path, "wb") as file:
-            file.write(maker(size))
-        os._exit(0)
-    os.waitpid(child, 0)
 
 
 def run(words):

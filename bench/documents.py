@@ -14,6 +14,8 @@ import sys
 import tempfile
 import time
 
+from made_files import made
+
 MIB = 1 << 20
 
 
@@ -45,16 +47,6 @@ def deep(size):
     """256 open elements, again and again below the first."""
     once = b"<b>" * 255 + b"</b>" * 255
     return b"<a>" + once * (size // len(once)) + b"</a>"
-
-
-def made(maker, size, path):
-    """Writes the file in a process of its own, whose memory isn't counted with that of the runs."""
-    child = os.fork()
-    if child == 0:
-        with open(path, "wb") as file:
-            file.write(maker(size))
-        os._exit(0)
-    os.waitpid(child, 0)
 
 
 def run(words):
