@@ -9,5 +9,5 @@ pub mod Forward
 pub mod Whole
 pub mod Ends
 pub mod Answering
-pub mod Runs
+pub mod TakenRuns
 pub mod Written

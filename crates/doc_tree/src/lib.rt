@@ -4,9 +4,9 @@
 mod characters;
 mod faults;
 mod laws;
-mod many;
 mod places;
 mod reader;
+mod runs;
 mod stack;
 mod stepping;
 

@@ -7,8 +7,8 @@ ghost use Rattle.doc_tree.specs.Readers.{HasRead};
 ghost use Rattle.doc_tree.specs.Fed.{joined};
 
 use crate::faults::DocFault;
-use crate::many::take_run;
 use crate::places::{Part, Place};
+use crate::runs::take_run;
 use crate::stack::Stack;
 use crate::stepping::next;
 use doc_model::Element;

@@ -465,8 +465,8 @@ fn question(at: u64, byte: u8) -> Place
     Place::Refused(at)
 }
 
-/// A byte that begins no character past ASCII, where no part was read and no reference may stand.
-fn tag_step(
+/// A byte that begins no character past ASCII, where no part of a character or a reference was read.
+fn ascii_step(
     alloc: Global,
     opens: &mut Stack,
     root: &mut Option<Element>,
@@ -751,7 +751,7 @@ pub fn next(
             if is_lead(byte) {
                 lead(alloc, opens, root, place, at, byte)
             } else {
-                tag_step(alloc, opens, root, place, at, byte)
+                ascii_step(alloc, opens, root, place, at, byte)
             }
         }
         Part::Lead(first) => second(alloc, opens, place, first, at, byte),

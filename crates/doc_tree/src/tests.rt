@@ -1,6 +1,6 @@
 ghost use Rattle.std.specs.Prelude.{◌≤◌};
 
-use crate::{DocFault, Element, Reader};
+use crate::{DocFault, Element, Reader, read_pieces, write};
 use std::alloc::Global;
 use std::test::Fail;
 
@@ -208,5 +208,23 @@ fn a_document_is_its_tree(rt: HostRuntime) -> Result<(), Fail> {
         };
         assert_eq!(rt; right, true);
     }
+    Ok(())
+}
+
+#[test]
+fn a_tree_is_read_from_pieces_and_written(rt: HostRuntime) -> Result<(), Fail> {
+    let pieces: [&[u8]; 2] = [b"<a b='1&#x4", b"1;'> x <!-- c -->y</a>"];
+    let written = match read_pieces(rt.alloc(), &pieces) {
+        Ok(element) => write(rt.alloc(), &element).ok(),
+        Err(_) => None,
+    };
+    let right = match written {
+        Some(text) => {
+            text.as_slice()
+                == b"<?xml version=\"1.0\" encoding=\"UTF-8\"?>\n<a b=\"1A\"> x y</a>\n".as_slice()
+        }
+        None => false,
+    };
+    assert_eq!(rt; right, true);
     Ok(())
 }

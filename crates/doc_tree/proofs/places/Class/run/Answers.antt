@@ -1,7 +1,7 @@
 use Rattle.std.proofs.Common.{◌≡◌, ◌∙◌, ap, sym, true, arith, take, get_or}
 use Rattle.std.proofs.lemmas.List.{take_more}
 use Rattle.doc_tree.specs.Characters.{all_bytes, class_test}
-use Rattle.doc_tree.proofs.Runs.{all_more}
+use Rattle.doc_tree.proofs.TakenRuns.{all_more}
 use Rattle.doc_tree.proofs.places.Class.run.Goals as goal
 
 pub loop-count-preserved : goal.loop-count-preserved

@@ -1,8 +1,8 @@
 use Rattle.std.proofs.Common.{◌++◌, ap, sym, refl, take, arith, false}
 use Rattle.doc_tree.specs.declared.places.Place.TheVariants as place
 use Rattle.doc_tree.specs.declared.places.Dashes.TheVariants.{Neither}
-use Rattle.doc_tree.proofs.Runs.{text_taken, text_not_taken, many, moved, length_more, stand, no_more, value_run, comment_run, instruction_run}
-use Rattle.doc_tree.proofs.many.take_run.Goals as goal
+use Rattle.doc_tree.proofs.TakenRuns.{text_taken, text_not_taken, many, moved, length_more, stand, no_more, value_run, comment_run, instruction_run}
+use Rattle.doc_tree.proofs.runs.take_run.Goals as goal
 
 pub returns-then-branch-clause-read : goal.returns-then-branch-clause-read
 returns-then-branch-clause-read c r count b h =
