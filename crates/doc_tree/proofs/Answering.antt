@@ -242,6 +242,17 @@ byte_answer b c count st p part os r (is, long, before) to =
     subst (λ n. HasReadBy (fault_of p part os n) (state p part os r) (suc n) (b ++ c ∷ [])) (sym long)
     (answered b c p part os r before reached (subst (λ x. PastState x (b ++ c ∷ [])) reached (document_read (b ++ c ∷ []))))
 
+-- without a fault, no name begins within 256 open elements
+pub within_limit : (b : List ℕ) (count from : ℕ) (n : List ℕ) (os : List Open) (r : Option Element) → HasReadBy None (state (TagName from n) Whole os r) count b → nat_eq (length os) 256 ≡ false
+within_limit b count from n os r (is, long, (shallow, begins)) = pick (nat_eq (length os) 256) refl
+  where
+    past : BehindName from n os r b
+    past = subst (λ x. PastState x b) (sym is) (document_read b)
+
+    pick : (t : Bool) → nat_eq (length os) 256 ≡ t → nat_eq (length os) 256 ≡ false
+    pick true e = absurd (shallow from (new_deep b from n os r past (eqb-true (length os) 256 e)))
+    pick false e = e
+
 -- a fault stays, whatever follows
 has_less : List ℕ → Bool
 has_less [] = false

@@ -1,5 +1,5 @@
 -- Runs of plain bytes are that many steps.
-use Rattle.std.proofs.Common.{true≢false, MatchBool, length-take-le, ◌≡◌, ℕ, suc, ◌+◌, ◌<◌, ◌≤◌, Bool, true, false, cond, List, [], ◌∷◌, ◌++◌, length, take, Option, None, refl, sym, ap, ◌∙◌, subst, append_assoc, append-nil, arith}
+use Rattle.std.proofs.Common.{true≢false, MatchBool, length-take-le, length-append, get_or, ◌≡◌, ℕ, suc, ◌+◌, ◌<◌, ◌≤◌, Bool, true, false, cond, List, [], ◌∷◌, ◌++◌, length, take, Option, None, refl, sym, ap, ◌∙◌, subst, append_assoc, append-nil, arith}
 use Rattle.doc_model.specs.declared.tree.Element.{Element}
 use Rattle.doc_tree.specs.declared.places.Quote.{Quote}
 use Rattle.doc_tree.specs.declared.places.Dashes.{Dashes}
@@ -7,14 +7,15 @@ use Rattle.doc_tree.specs.declared.places.Dashes.TheVariants.{Neither}
 use Rattle.doc_tree.specs.declared.places.Tag.{Tag}
 use Rattle.doc_tree.specs.declared.places.Open.{Open}
 use Rattle.doc_tree.specs.declared.places.Place.{Place}
-use Rattle.doc_tree.specs.declared.places.Place.TheVariants.{Between, Value, Comment, Instruction}
+use Rattle.doc_tree.specs.declared.places.Place.TheVariants.{Between, TagName, Key, Value, Close, Target, Comment, Instruction}
 use Rattle.doc_tree.specs.declared.places.Part.TheVariants.{Whole}
-use Rattle.doc_tree.specs.Characters.{is_text, is_value, is_comment_byte, is_instruction_byte}
+use Rattle.doc_tree.specs.Characters.{is_text, is_value, is_name_byte, is_comment_byte, is_instruction_byte}
 use Rattle.doc_tree.specs.Machine.{state}
 use Rattle.doc_tree.specs.Machine.{open_at, with_text}
-use Rattle.doc_tree.specs.Fed.{HasReadBy}
+use Rattle.doc_tree.specs.Fed.{HasReadBy, fault_of}
 use Rattle.doc_tree.proofs.Classes.{ascii_step}
-use Rattle.doc_tree.proofs.Answering.{byte_answer}
+use Rattle.doc_tree.proofs.Answering.{byte_answer, within_limit}
+use Rattle.doc_tree.proofs.Whole.{byte_of, close_step}
 use Rattle.doc_tree.specs.Characters.{all_bytes}
 
 pub all_more : (ok : ℕ → Bool) (s : List ℕ) (c : ℕ) → all_bytes ok s ≡ true → ok c ≡ true → all_bytes ok (s ++ c ∷ []) ≡ true
@@ -66,6 +67,60 @@ value_run (c ∷ s) t k q v os r count b all h =
     (subst (λ w. HasReadBy None (state (Value t k q w) Whole os r) (suc count + length s) ((b ++ c ∷ []) ++ s)) (append_assoc v (c ∷ []) s)
     (value_run s t k q (v ++ c ∷ []) os r (suc count) (b ++ c ∷ []) rest
     (byte_answer b c count (state (Value t k q v) Whole os r) (Value t k q (v ++ c ∷ [])) Whole os r h (sym (ascii_step (Value t k q v) os r count c refl is)))))
+
+pub tag_name_run : (s : List ℕ) (from : ℕ) (n : List ℕ) (os : List Open) (r : Option Element) (count : ℕ) (b : List ℕ) → all_bytes is_name_byte s ≡ true
+    → HasReadBy None (state (TagName from n) Whole os r) count b → HasReadBy None (state (TagName from (n ++ s)) Whole os r) (count + length s) (b ++ s)
+tag_name_run [] from n os r count b all h =
+    subst (λ m. HasReadBy None (state (TagName from m) Whole os r) (count + 0) (b ++ [])) (sym (append-nil n)) (none_more b count h)
+tag_name_run (c ∷ s) from n os r count b all h =
+    let (is, rest) = all_first is_name_byte c s all in
+    let m = n ++ c ∷ [] in
+    let fault : fault_of (TagName from m) Whole os count ≡ None = rw (within_limit b count from n os r h) refl in
+    let behind = byte_answer b c count (state (TagName from n) Whole os r) (TagName from m) Whole os r h (sym (ascii_step (TagName from n) os r count c refl is)) in
+    further b s c count
+    (subst (λ w. HasReadBy None (state (TagName from w) Whole os r) (suc count + length s) ((b ++ c ∷ []) ++ s)) (append_assoc n (c ∷ []) s)
+    (tag_name_run s from m os r (suc count) (b ++ c ∷ []) rest (subst (λ f. HasReadBy f (state (TagName from m) Whole os r) (suc count) (b ++ c ∷ [])) fault behind)))
+
+pub key_run : (s : List ℕ) (t : Tag) (k : List ℕ) (os : List Open) (r : Option Element) (count : ℕ) (b : List ℕ) → all_bytes is_name_byte s ≡ true
+    → HasReadBy None (state (Key t k) Whole os r) count b → HasReadBy None (state (Key t (k ++ s)) Whole os r) (count + length s) (b ++ s)
+key_run [] t k os r count b all h =
+    subst (λ m. HasReadBy None (state (Key t m) Whole os r) (count + 0) (b ++ [])) (sym (append-nil k)) (none_more b count h)
+key_run (c ∷ s) t k os r count b all h =
+    let (is, rest) = all_first is_name_byte c s all in
+    further b s c count
+    (subst (λ m. HasReadBy None (state (Key t m) Whole os r) (suc count + length s) ((b ++ c ∷ []) ++ s)) (append_assoc k (c ∷ []) s)
+    (key_run s t (k ++ c ∷ []) os r (suc count) (b ++ c ∷ []) rest
+    (byte_answer b c count (state (Key t k) Whole os r) (Key t (k ++ c ∷ [])) Whole os r h (sym (ascii_step (Key t k) os r count c refl is)))))
+
+pub target_run : (s : List ℕ) (os : List Open) (r : Option Element) (count : ℕ) (b : List ℕ) → all_bytes is_name_byte s ≡ true → HasReadBy None (state Target Whole os r) count b
+    → HasReadBy None (state Target Whole os r) (count + length s) (b ++ s)
+target_run [] os r count b all h = none_more b count h
+target_run (c ∷ s) os r count b all h =
+    let (is, rest) = all_first is_name_byte c s all in
+    further b s c count (target_run s os r (suc count) (b ++ c ∷ []) rest
+    (byte_answer b c count (state Target Whole os r) Target Whole os r h (sym (ascii_step Target os r count c refl is))))
+
+close_rest : (s done : List ℕ) (o : Open) (os : List Open) (r : Option Element) (count : ℕ) (b : List ℕ) → o.name ≡ done ++ s
+    → HasReadBy None (state (Close (length done)) Whole (o ∷ os) r) count b → HasReadBy None (state (Close (length o.name)) Whole (o ∷ os) r) (count + length s) (b ++ s)
+close_rest [] done o os r count b e h =
+    subst (λ k. HasReadBy None (state (Close k) Whole (o ∷ os) r) (count + 0) (b ++ [])) (ap length (sym (e ∙ append-nil done))) (none_more b count h)
+close_rest (c ∷ s) done o os r count b e h =
+    let more = done ++ c ∷ [] in
+    let within : length done < length o.name = omega (arith, ap length e, length-append done (c ∷ s)) in
+    let is : c ≡ get_or o.name (length done) 0 = sym (ap (λ n. get_or n (length done) 0) e ∙ byte_of done s c) in
+    let longer : suc (length done) ≡ length more = omega (arith, length-append done (c ∷ [])) in
+    further b s c count (close_rest s more o os r (suc count) (b ++ c ∷ []) (e ∙ sym (append_assoc done (c ∷ []) s))
+    (byte_answer b c count (state (Close (length done)) Whole (o ∷ os) r) (Close (length more)) Whole (o ∷ os) r h
+    (sym (close_step (length done) o os r count c within is ∙ ap (λ n. state (Close n) Whole (o ∷ os) r) longer))))
+
+pub close_run : (n : ℕ) (bytes : List ℕ) (os : List Open) (r : Option Element) (count : ℕ) (b : List ℕ) → ((o : Open) × (rest : List Open) × (os ≡ o ∷ rest) × (n ≡ length o.name) × (take n bytes ≡ o.name))
+    → HasReadBy None (state (Close 0) Whole os r) count b → HasReadBy None (state (Close n) Whole os r) (count + n) (b ++ take n bytes)
+close_run n bytes os r count b (o, rest, e, long, is) h =
+    let behind : HasReadBy None (state (Close (length o.name)) Whole (o ∷ rest) r) (count + length o.name) (b ++ o.name) =
+    close_rest o.name [] o rest r count b refl (subst (λ x. HasReadBy None (state (Close 0) Whole x r) count b) e h) in
+    subst (λ x. HasReadBy None (state (Close n) Whole x r) (count + n) (b ++ take n bytes)) (sym e)
+    (subst (λ s. HasReadBy None (state (Close n) Whole (o ∷ rest) r) (count + n) (b ++ s)) (sym is)
+    (subst (λ m. HasReadBy None (state (Close m) Whole (o ∷ rest) r) (count + m) (b ++ o.name)) (sym long) behind))
 
 comment_rest : (s : List ℕ) (os : List Open) (r : Option Element) (count : ℕ) (b : List ℕ) → all_bytes is_comment_byte s ≡ true → HasReadBy None (state (Comment Neither) Whole os r) count b
     → HasReadBy None (state (Comment Neither) Whole os r) (count + length s) (b ++ s)

@@ -25,7 +25,7 @@ pub byte_of : (done rest : List ℕ) (c : ℕ) → get_or (done ++ c ∷ rest) (
 byte_of [] rest c = refl
 byte_of (d ∷ done) rest c = byte_of done rest c
 
-close_step : (k : ℕ) (o : Open) (os : List Open) (r : Option Element) (at c : ℕ) → k < length o.name → c ≡ get_or o.name k 0 → next (state (Close k) Whole (o ∷ os) r) at c ≡ state (Close (suc k)) Whole (o ∷ os) r
+pub close_step : (k : ℕ) (o : Open) (os : List Open) (r : Option Element) (at c : ℕ) → k < length o.name → c ≡ get_or o.name k 0 → next (state (Close k) Whole (o ∷ os) r) at c ≡ state (Close (suc k)) Whole (o ∷ os) r
 close_step k o os r at c within is =
     let lower : nat_lt k (length o.name) ≡ true = grind (arith, nat_tests) in
     cond_same (is_lead c) (chosen (step_at (Close k) (o ∷ os) r at c)) ∙ rw (lower, eq-eqb c (get_or o.name k 0) is) refl

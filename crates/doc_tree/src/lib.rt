@@ -4,6 +4,7 @@
 mod characters;
 mod faults;
 mod laws;
+mod lists;
 mod places;
 mod reader;
 mod runs;

@@ -10,10 +10,9 @@ use crate::faults::DocFault;
 use crate::places::{Part, Place};
 use crate::runs::take_run;
 use crate::stack::Stack;
-use crate::stepping::next;
+use crate::stepping::advance;
 use doc_model::Element;
 use std::alloc::Global;
-use std::mem;
 use wide_sums::Memory;
 
 /// A document is read from pieces, however it is cut, into its tree. No piece is kept.
@@ -90,12 +89,11 @@ impl Reader {
         ensures read { (b : List ℕ) → HasRead self.old b → HasRead self.new (b ++ byte ∷ []) }
         ensures count { self.new.count ≤ self.old.count + 1 }
     {
-        let place = mem::replace(&mut self.place, Place::Between);
-        match next(
+        match advance(
             self.alloc,
             &mut self.opens,
             &mut self.root,
-            place,
+            &mut self.place,
             self.part,
             self.count,
             byte,
@@ -103,9 +101,8 @@ impl Reader {
             Err(Memory) => {
                 self.fault = Some(DocFault::Memory);
             }
-            Ok((place, part)) => {
-                self.fault = fault_of(&place, part, &self.opens, self.count);
-                self.place = place;
+            Ok(part) => {
+                self.fault = fault_of(&self.place, part, &self.opens, self.count);
                 self.part = part;
                 self.count += 1;
             }

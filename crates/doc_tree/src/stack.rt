@@ -3,6 +3,7 @@ ghost use Rattle.doc_model.specs.declared.tree.Element.{Element};
 ghost use Rattle.doc_tree.specs.declared.places.Open.{Open};
 ghost use Rattle.doc_tree.specs.Machine.{with_child, with_text};
 
+use crate::lists::put;
 use crate::places::Open;
 use doc_model::Element;
 use std::alloc::Global;
@@ -107,13 +108,13 @@ impl Stack {
     }
 
     /// A child of the innermost element. Where there is none, it comes back.
-    pub fn add_child(&mut self, child: Element) -> Result<Option<Element>, Memory>
+    pub fn add_child(&mut self, alloc: Global, child: Element) -> Result<Option<Element>, Memory>
         ensures { IfOk result (λ back. MatchOption back ((o : Open) × (os : List Open) × (self.old ≡ o ∷ os) × (self.new ≡ with_child o child ∷ os)) (λ same. (same ≡ child) × (self.old ≡ []) × (self.new ≡ []))) }
     {
         match self.pop() {
             None => Ok(Some(child)),
             Some(mut inner) => {
-                inner.children.push(child)?;
+                put(alloc, &mut inner.children, child)?;
                 self.push(inner)?;
                 Ok(None)
             }

@@ -12,12 +12,14 @@ use crate::characters::{
     is_instruction_byte, is_lead, is_lead_of_two, is_name_byte, is_name_start, is_tail, is_text,
     is_value, is_white,
 };
+use crate::lists::put;
 use crate::places::{Dashes, Entity, Open, Part, Place, Quote, Radix, Tag};
 use crate::stack::Stack;
 use doc_model::{Attribute, Element};
 use name_tables::Name;
 use sqlite_items::Items;
 use std::alloc::Global;
+use std::mem;
 use wide_sums::Memory;
 
 fn are_white(bytes: &[u8]) -> bool
@@ -53,10 +55,15 @@ fn is_fresh(name: &[u8], attributes: &[Attribute]) -> bool
 }
 
 /// An element has ended.
-fn close(opens: &mut Stack, root: &mut Option<Element>, element: Element) -> Result<(), Memory>
+fn close(
+    alloc: Global,
+    opens: &mut Stack,
+    root: &mut Option<Element>,
+    element: Element,
+) -> Result<(), Memory>
     ensures { OnOk result (state place.Between part.Whole opens.new root.new ≡ chosen (closed element opens.old root.old)) }
 {
-    if let Some(ended) = opens.add_child(element)? {
+    if let Some(ended) = opens.add_child(alloc, element)? {
         *root = Some(ended);
     }
     Ok(())
@@ -260,6 +267,7 @@ fn equals(alloc: Global, tag: Tag, key: Name, at: u64, byte: u8) -> Place
 }
 
 fn value_byte(
+    alloc: Global,
     mut tag: Tag,
     key: Name,
     quote: Quote,
@@ -274,7 +282,7 @@ fn value_byte(
         return Ok((Place::Value(tag, key, quote, value), Part::Whole));
     }
     if byte == quote.byte() {
-        tag.attributes.push(Attribute { name: key, value })?;
+        put(alloc, &mut tag.attributes, Attribute { name: key, value })?;
         return Ok((Place::Attributed(tag), Part::Whole));
     }
     if byte == b'&' {
@@ -308,7 +316,7 @@ fn slash(
         children: Items::new(alloc),
         text: Name::from(Vec::new(alloc)),
     };
-    close(opens, root, element)?;
+    close(alloc, opens, root, element)?;
     Ok(Place::Between)
 }
 
@@ -345,7 +353,7 @@ fn after_end(
         children,
         text: shown(alloc, text),
     };
-    close(opens, root, element)?;
+    close(alloc, opens, root, element)?;
     Ok(Place::Between)
 }
 
@@ -478,7 +486,9 @@ fn ascii_step(
 {
     let next = match place {
         Place::Between => return between(opens, at, byte),
-        Place::Value(tag, key, quote, value) => return value_byte(tag, key, quote, value, at, byte),
+        Place::Value(tag, key, quote, value) => {
+            return value_byte(alloc, tag, key, quote, value, at, byte);
+        }
         Place::Less(from) => less(alloc, opens, root, from, at, byte)?,
         Place::TagName(from, name) => tag_name(alloc, opens, from, name, at, byte)?,
         Place::Blank(tag) => blank(alloc, opens, tag, at, byte)?,
@@ -734,8 +744,8 @@ fn digits(
     Ok((Place::Refused(at), Part::Whole))
 }
 
-/// The next byte: where the reader stands behind it, and the part of a character or a reference that was read.
-pub fn next(
+/// The next byte, where the place is taken along.
+fn next(
     alloc: Global,
     opens: &mut Stack,
     root: &mut Option<Element>,
@@ -774,4 +784,74 @@ pub fn next(
         Part::HashX => Ok(hash_x(place, at, byte)),
         Part::Digits(radix, number) => digits(alloc, opens, place, radix, number, at, byte),
     }
+}
+
+/// A byte that begins no character past ASCII, where no part of a character or a reference was read. What the place holds stays
+/// where it is while nothing else holds it.
+fn step_in_place(
+    alloc: Global,
+    opens: &mut Stack,
+    root: &mut Option<Element>,
+    place: &mut Place,
+    at: u64,
+    byte: u8,
+) -> Result<Part, Memory>
+    ensures { IfOk result (λ q. state place.new q opens.new root.new ≡ chosen (step_at place.old opens.old root.old at byte)) }
+{
+    match place {
+        Place::Between => {
+            let (next, part) = between(opens, at, byte)?;
+            *place = next;
+            Ok(part)
+        }
+        Place::Less(from) => {
+            let next = less(alloc, opens, root, *from, at, byte)?;
+            *place = next;
+            Ok(Part::Whole)
+        }
+        Place::Close(read) => {
+            let next = close_name(alloc, opens, root, *read, at, byte)?;
+            *place = next;
+            Ok(Part::Whole)
+        }
+        Place::TagName(from, name) => {
+            let name = mem::replace(name, Name::from(Vec::new(alloc)));
+            let next = tag_name(alloc, opens, *from, name, at, byte)?;
+            *place = next;
+            Ok(Part::Whole)
+        }
+        _ => {
+            let taken = mem::replace(place, Place::Between);
+            let (next, part) = ascii_step(alloc, opens, root, taken, at, byte)?;
+            *place = next;
+            Ok(part)
+        }
+    }
+}
+
+/// The next byte: the place behind it, and the part of a character or a reference that was read.
+pub fn advance(
+    alloc: Global,
+    opens: &mut Stack,
+    root: &mut Option<Element>,
+    place: &mut Place,
+    part: Part,
+    at: u64,
+    byte: u8,
+) -> Result<Part, Memory>
+    ensures { IfOk result (λ q. state place.new q opens.new root.new ≡ chosen (step place.old part opens.old root.old at byte)) }
+{
+    match part {
+        Part::Whole => {
+            if !is_lead(byte) {
+                let part = step_in_place(alloc, opens, root, place, at, byte)?;
+                return Ok(part);
+            }
+        }
+        _ => {}
+    }
+    let taken = mem::replace(place, Place::Between);
+    let (next, part) = next(alloc, opens, root, taken, part, at, byte)?;
+    *place = next;
+    Ok(part)
 }

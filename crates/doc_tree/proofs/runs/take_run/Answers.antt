@@ -1,7 +1,7 @@
-use Rattle.std.proofs.Common.{◌++◌, ap, sym, refl, take, arith, false}
+use Rattle.std.proofs.Common.{◌≡◌, ◌∙◌, ◌++◌, ap, sym, refl, take, arith, false}
 use Rattle.doc_tree.specs.declared.places.Place.TheVariants as place
 use Rattle.doc_tree.specs.declared.places.Dashes.TheVariants.{Neither}
-use Rattle.doc_tree.proofs.TakenRuns.{text_taken, text_not_taken, many, moved, length_more, stand, no_more, value_run, comment_run, instruction_run}
+use Rattle.doc_tree.proofs.TakenRuns.{text_taken, text_not_taken, many, moved, length_more, stand, no_more, tag_name_run, key_run, value_run, close_run, target_run, comment_run, instruction_run}
 use Rattle.doc_tree.proofs.runs.take_run.Goals as goal
 
 pub returns-then-branch-clause-read : goal.returns-then-branch-clause-read
@@ -26,6 +26,54 @@ returns-in_ok-append-in-Value-clause-read c r count b h =
     (ap (λ v. place.Value w.field-0 w.field-1 w.quote v) (sym c.in_ok-append-in-Value.ensures.appended)) refl
     (value_run (take n bytes) w.field-0 w.field-1 w.quote w.value os r count b c.run-count-in-Value.ensures.all
     (moved c.args.place.now (place.Value w.field-0 w.field-1 w.quote w.value) os os r count b w.is refl h)))
+
+pub returns-in_ok-count-in-TagName-clause-read : goal.returns-in_ok-count-in-TagName-clause-read
+returns-in_ok-count-in-TagName-clause-read c r count b h =
+    let w = c.in-TagName in
+    let bytes = c.args.bytes.now in
+    let n = c.in_ok-count-in-TagName.count in
+    let taken = c.in_ok-count-in-TagName.ensures in
+    let os = c.args.opens.now in
+    many (place.TagName w.field-0 c.take_name.new.name) os r count n b bytes taken.within
+    (moved (place.TagName w.field-0 (w.name ++ take n bytes)) (place.TagName w.field-0 c.take_name.new.name) os os r _ _ (ap (λ m. place.TagName w.field-0 m) (sym taken.appended)) refl
+    (tag_name_run (take n bytes) w.field-0 w.name os r count b taken.all (moved c.args.place.now (place.TagName w.field-0 w.name) os os r count b w.is refl h)))
+
+pub returns-in_ok-count-in-Key-clause-read : goal.returns-in_ok-count-in-Key-clause-read
+returns-in_ok-count-in-Key-clause-read c r count b h =
+    let w = c.in-Key in
+    let bytes = c.args.bytes.now in
+    let n = c.in_ok-count-in-Key.count in
+    let taken = c.in_ok-count-in-Key.ensures in
+    let os = c.args.opens.now in
+    many (place.Key w.field-0 c.take_name-in-Key.new.name) os r count n b bytes taken.within
+    (moved (place.Key w.field-0 (w.name ++ take n bytes)) (place.Key w.field-0 c.take_name-in-Key.new.name) os os r _ _ (ap (λ m. place.Key w.field-0 m) (sym taken.appended)) refl
+    (key_run (take n bytes) w.field-0 w.name os r count b taken.all (moved c.args.place.now (place.Key w.field-0 w.name) os os r count b w.is refl h)))
+
+pub returns-then-read-gt0-clause-read : goal.returns-then-read-gt0-clause-read
+returns-then-read-gt0-clause-read c r count b h =
+    let os = c.args.opens.now in
+    no_more (place.Close c.in-Close.read) os r count b (moved c.args.place.now (place.Close c.in-Close.read) os os r count b c.in-Close.is refl h)
+
+pub returns-in-None-clause-read : goal.returns-in-None-clause-read
+returns-in-None-clause-read c r count b h =
+    let os = c.args.opens.now in
+    no_more (place.Close c.in-Close.read) os r count b (moved c.args.place.now (place.Close c.in-Close.read) os os r count b c.in-Close.is refl h)
+
+pub returns-in-Some-clause-read : goal.returns-in-Some-clause-read
+returns-in-Some-clause-read c r count b h =
+    let os = c.args.opens.now in
+    let first : c.in-Close.read ≡ 0 = omega (arith, c.if-read-gt0.false) in
+    close_run c.in-Some.count c.args.bytes.now os r count b c.in-Some.ensures.name
+    (moved c.args.place.now (place.Close 0) os os r count b (c.in-Close.is ∙ ap (λ k. place.Close k) first) refl h)
+
+pub returns-in-Target-clause-read : goal.returns-in-Target-clause-read
+returns-in-Target-clause-read c r count b h =
+    let bytes = c.args.bytes.now in
+    let n = c.name_run.result in
+    let os = c.args.opens.now in
+    moved place.Target c.args.place.now os os r _ _ (sym c.in-Target.is) refl
+    (many place.Target os r count n b bytes c.name_run.ensures.within
+    (target_run (take n bytes) os r count b c.name_run.ensures.all (moved c.args.place.now place.Target os os r count b c.in-Target.is refl h)))
 
 pub returns-then-count-gt0-clause-read : goal.returns-then-count-gt0-clause-read
 returns-then-count-gt0-clause-read c r count b h =

@@ -8,10 +8,9 @@ pub returns-in-Ok-clause-read : goal.returns-in-Ok-clause-read
 returns-in-Ok-clause-read c b h =
     let old = c.args.self.now in
     let before = subst (λ f. HasReadBy f (state old.place old.part old.opens old.root) old.count b) c.requires.live h in
-    let to : state c.in-Ok.place c.in-Ok.part c.next.new.opens c.next.new.root ≡ next (state old.place old.part old.opens old.root) old.count c.args.byte =
-    rw (← c.replace-place.ensures.value) c.in-Ok.ensures in
-    let behind = state c.in-Ok.place c.in-Ok.part c.next.new.opens c.next.new.root in
+    let to : state c.advance.new.place c.in-Ok.part c.advance.new.opens c.advance.new.root ≡ next (state old.place old.part old.opens old.root) old.count c.args.byte = c.in-Ok.ensures in
+    let behind = state c.advance.new.place c.in-Ok.part c.advance.new.opens c.advance.new.root in
     let bytes = b ++ c.args.byte ∷ [] in
     subst (λ n. HasReadBy c.fault_of-self.result behind n bytes) (sym (add-one old.count))
     (subst (λ f. HasReadBy f behind (suc old.count) bytes) (sym c.fault_of-self.ensures)
-    (byte_answer b c.args.byte old.count (state old.place old.part old.opens old.root) c.in-Ok.place c.in-Ok.part c.next.new.opens c.next.new.root before to))
+    (byte_answer b c.args.byte old.count (state old.place old.part old.opens old.root) c.advance.new.place c.in-Ok.part c.advance.new.opens c.advance.new.root before to))
