@@ -49,6 +49,19 @@ def deep(size):
     return b"<a>" + once * (size // len(once)) + b"</a>"
 
 
+def names(size):
+    """Elements and attributes with long names."""
+    name = b"name" * 16
+    each = b"<" + name + b" " + name + b"=''></" + name + b">"
+    return b"<a>" + each * (size // len(each)) + b"</a>"
+
+
+def references(size):
+    """One text of references."""
+    each = b"&lt;&#65;&#x1F600;"
+    return b"<a>" + each * (size // len(each)) + b"</a>"
+
+
 def run(words):
     """Output, fastest seconds and peak memory in MiB of three runs."""
     best, peak, output = 1e9, 0, b""
@@ -66,7 +79,7 @@ def main():
     program = os.path.abspath(sys.argv[1])
     sizes = [int(word) for word in sys.argv[2:]] or [1, 8, 60]
     print("file         MiB  seconds  peak MiB   xmllint  peak MiB")
-    for maker in (elements, children, text, deep, attributes):
+    for maker in (elements, children, names, text, references, deep, attributes):
         for size in sizes:
             with tempfile.TemporaryDirectory() as folder:
                 path = os.path.join(folder, "file")
