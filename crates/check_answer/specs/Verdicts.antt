@@ -4,7 +4,7 @@ use Rattle.plain_model.specs.declared.nets.PlainNet.{PlainNet}
 use Rattle.plain_model.specs.declared.properties.Property.{Property}
 use Rattle.plain_model.specs.declared.certificates.Certificate.{Certificate}
 use Rattle.plain_model.specs.Obligations.{judgement}
-use Rattle.plain_model.specs.Plain.{IsPlainNet}
+use Rattle.plain_model.specs.Plain.{IsPlainNet, IsPlainProperty, IsPlainCertificate}
 use Rattle.plain_model.specs.Report.{report}
 use Rattle.plain_text.specs.Nets.{net_text}
 use Rattle.plain_text.specs.Properties.{property_text}
@@ -25,7 +25,7 @@ role_word Cert = codes "certificate"
 abbrev pub refusal_line : Role → List ℕ → List ℕ
 refusal_line role word = codes "refused " ++ role_word role ++ 32 ∷ word ++ 10 ∷ []
 
--- the three texts are those of a plain net, a property and a certificate for it, and these are judged
+-- the three texts are those of a net, a property and a certificate of the first grammar, and these are judged
 pub record IsJudged (texts : Texts) (outcome : Outcome) (text : List ℕ) : Type 0 where
   pub net : PlainNet
   pub property : Property
@@ -33,8 +33,9 @@ pub record IsJudged (texts : Texts) (outcome : Outcome) (text : List ℕ) : Type
   pub net_file : net_text net ≡ texts.net
   pub formula_file : property_text property ≡ texts.formula
   pub certificate_file : certificate_text certificate ≡ texts.certificate
-  pub plain : IsPlainNet net
-  pub named : certificate.property ≡ property.id
+  pub plain_net : IsPlainNet net
+  pub plain_property : IsPlainProperty net property
+  pub plain_certificate : IsPlainCertificate net property certificate
   pub outcome_is : outcome ≡ outcome_of (judgement net property certificate)
   pub text_is : text ≡ report net property certificate (judgement net property certificate)
 

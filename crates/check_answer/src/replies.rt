@@ -1,7 +1,8 @@
-ghost use Rattle.std.specs.Prelude.{◌≡◌, ◌++◌, ◌∷◌, [], codes, IfOk, OnOk};
+ghost use Rattle.std.specs.Prelude.{◌≡◌, ◌++◌, ◌∷◌, [], codes, All, Contains, IfOk, OnOk};
+ghost use Rattle.std.specs.Bool.{OnTrue};
 ghost use Rattle.plain_model.specs.Obligations.{judgement};
-ghost use Rattle.plain_model.specs.Plain.{IsPlainNet};
-ghost use Rattle.plain_rows.specs.Rows.{AreRowsOf, IsLayoutOf};
+ghost use Rattle.plain_model.specs.Plain.{IsId, IsPlainCertificate, IsPlainCount, IsPlainNet, IsPlainProperty, place_ids};
+ghost use Rattle.plain_rows.specs.Rows.{AreRowsOf};
 ghost use Rattle.plain_text.specs.Certificates.{certificate_text};
 ghost use Rattle.plain_text.specs.Nets.{net_text};
 ghost use Rattle.plain_text.specs.Properties.{property_text};
@@ -12,14 +13,17 @@ use crate::outcomes::{Outcome, outcome_of};
 use crate::refusals::Refusal;
 use crate::report::{put, report_text};
 use host_io::{Gate, Phase};
-use name_tables::{Ids, Name};
+use name_tables::{Name, is_id};
 use plain_judge::judge;
 use plain_model::{Certificate, Count, Judged, PlainNet, Property};
-use plain_rows::{PlainRows, build};
+use plain_rows::{Numbers, PlainRows, build};
 use plain_text::{read_certificate, read_net, read_property};
 use pnml_inputs::{Inputs, Role};
 use std::alloc::Global;
 use wide_sums::Memory;
+
+// 2^63 - 1, the largest number of a count.
+const MAX_NUMBER: u64 = 9_223_372_036_854_775_807;
 
 /// An outcome, and the whole text that is to be written for it.
 #[derive(Debug, Drop)]
@@ -89,9 +93,13 @@ fn net_of(alloc: Global, bytes: &[u8]) -> Result<PlainNet, Refusal>
 }
 
 /// The net by the numbers of its places and transitions, in one job.
-fn rows_of<G: Gate>(alloc: Global, net: &PlainNet, gate: &G) -> Result<PlainRows, Refusal>
+fn rows_of<'a, G: Gate>(
+    alloc: Global,
+    net: &'a PlainNet,
+    gate: &G,
+) -> Result<PlainRows<'a>, Refusal>
     ensures plain { OnOk result (IsPlainNet net.now) }
-    ensures layout { IfOk result (λ rows. IsLayoutOf net.now rows.layout) }
+    ensures places { IfOk result (λ rows. rows.places ≡ place_ids net.now) }
     ensures rows { IfOk result (λ rows. AreRowsOf net.now rows.net) }
 {
     gate.enter(Phase::Unfold, 0);
@@ -99,15 +107,20 @@ fn rows_of<G: Gate>(alloc: Global, net: &PlainNet, gate: &G) -> Result<PlainRows
     Ok(rows)
 }
 
-/// Each place of the count has a number.
-fn is_known(places: &Ids, count: &Count) -> bool {
+/// Whether the count is a number in range, or lists places of the net, at least one.
+fn is_plain_count(places: &Numbers<'_>, count: &Count) -> bool
+    ensures { OnTrue result (IsPlainCount places.now count.now) }
+{
     match count {
-        Count::Number(_) => true,
-        Count::Tokens(names) => are_known(places, names.as_slice()),
+        Count::Number(number) => *number <= MAX_NUMBER,
+        Count::Tokens(names) => !names.is_empty() && are_known(places, names.as_slice()),
     }
 }
 
-fn are_known(places: &Ids, names: &[Name]) -> bool {
+/// Whether each name is that of a place.
+fn are_known(places: &Numbers<'_>, names: &[Name]) -> bool
+    ensures { OnTrue result (All (Contains places.now) names.now) }
+{
     for name in names {
         if places.find(name.bytes()).is_none() {
             return false;
@@ -116,13 +129,31 @@ fn are_known(places: &Ids, names: &[Name]) -> bool {
     true
 }
 
-/// The property of this file, whose places have numbers.
-fn property_of(alloc: Global, bytes: &[u8], places: &Ids) -> Result<Property, Refusal>
-    ensures { IfOk result (λ property. property_text property ≡ bytes.now) }
+/// Whether the property has an id, and counts in form over these places.
+fn is_plain_property(places: &Numbers<'_>, property: &Property) -> bool
+    ensures id { OnTrue result (IsId property.now.id) }
+    ensures left { OnTrue result (IsPlainCount places.now property.now.left) }
+    ensures right { OnTrue result (IsPlainCount places.now property.now.right) }
+{
+    is_id(property.id.bytes())
+        && is_plain_count(places, &property.left)
+        && is_plain_count(places, &property.right)
+}
+
+/// The property of this file.
+fn property_of(
+    alloc: Global,
+    bytes: &[u8],
+    net: &PlainNet,
+    places: &Numbers<'_>,
+) -> Result<Property, Refusal>
+    requires { places.now ≡ place_ids net.now }
+    ensures read { IfOk result (λ property. property_text property ≡ bytes.now) }
+    ensures plain { IfOk result (IsPlainProperty net.now) }
 {
     match read_property(alloc, bytes) {
         Ok(property) => {
-            if is_known(places, &property.left) && is_known(places, &property.right) {
+            if is_plain_property(places, &property) {
                 Ok(property)
             } else {
                 Err(Refusal::NotYet(Role::Formula))
@@ -132,19 +163,12 @@ fn property_of(alloc: Global, bytes: &[u8], places: &Ids) -> Result<Property, Re
     }
 }
 
-/// The certificate of this file, which is for the property with this id.
-fn certificate_for(alloc: Global, bytes: &[u8], property: &Name) -> Result<Certificate, Refusal>
-    ensures read { IfOk result (λ certificate. certificate_text certificate ≡ bytes.now) }
-    ensures named { IfOk result (λ certificate. certificate.property ≡ property.now) }
+/// The certificate of this file.
+fn certificate_of(alloc: Global, bytes: &[u8]) -> Result<Certificate, Refusal>
+    ensures { IfOk result (λ certificate. certificate_text certificate ≡ bytes.now) }
 {
     match read_certificate(alloc, bytes) {
-        Ok(certificate) => {
-            if certificate.property.bytes() == property.bytes() {
-                Ok(certificate)
-            } else {
-                Err(Refusal::NotYet(Role::Cert))
-            }
-        }
+        Ok(certificate) => Ok(certificate),
         Err(fault) => Err(Refusal::of_text(Role::Cert, fault)),
     }
 }
@@ -153,15 +177,16 @@ fn certificate_for(alloc: Global, bytes: &[u8], property: &Name) -> Result<Certi
 fn judgement_of<G: Gate>(
     alloc: Global,
     net: &PlainNet,
-    rows: &PlainRows,
+    rows: &PlainRows<'_>,
     property: &Property,
     certificate: &Certificate,
     gate: &G,
 ) -> Result<Judged, Refusal>
     requires plain { IsPlainNet net.now }
-    requires layout { IsLayoutOf net.now rows.now.layout }
+    requires places { rows.now.places ≡ place_ids net.now }
     requires rows { AreRowsOf net.now rows.now.net }
-    ensures { IfOk result (λ judged. judged ≡ judgement net.now property.now certificate.now) }
+    ensures plain { OnOk result (IsPlainCertificate net.now property.now certificate.now) }
+    ensures judged { IfOk result (λ judged. judged ≡ judgement net.now property.now certificate.now) }
 {
     gate.enter(Phase::Judge, 0);
     let judged = judge(alloc, net, rows, property, certificate)?;
@@ -175,8 +200,8 @@ fn judged_reply<G: Gate>(alloc: Global, inputs: &Inputs, gate: &G) -> Result<Rep
 {
     let net = net_of(alloc, inputs.net())?;
     let rows = rows_of(alloc, &net, gate)?;
-    let property = property_of(alloc, inputs.formula(), rows.layout.places())?;
-    let certificate = certificate_for(alloc, inputs.certificate(), &property.id)?;
+    let property = property_of(alloc, inputs.formula(), &net, &rows.places)?;
+    let certificate = certificate_of(alloc, inputs.certificate())?;
     let judged = judgement_of(alloc, &net, &rows, &property, &certificate, gate)?;
     let text = report_text(alloc, &net, &property, &certificate, &judged)?;
     Ok(Reply {

@@ -5,3 +5,6 @@ mod Sums
 mod Slacks
 mod Residues
 mod Order
+pub mod Marks
+mod ByPlace
+mod FirstFailing

@@ -3,10 +3,8 @@ use Rattle.std.proofs.Common.{◌≡◌, ℕ, ◌+◌, ◌^◌, ◌<◌, Bool, t
 use Rattle.std.specs.Prelude.{flat_map, unsigned_abs}
 use Rattle.std.specs.List.{enumerate_from}
 use Rattle.std.proofs.lemmas.Simd.{map-map}
-use Rattle.std.proofs.lemmas.List.{ext_get_or, get_or-map, get_or_append_left, length-append, length-map}
+use Rattle.std.proofs.lemmas.List.{drop_more, ext_get_or, get_or-map, get_or_append_left, length-append, length-map}
 use Rattle.std.proofs.lemmas.Option.{slice_get-get_or}
-use Rattle.std.proofs.Math.Seq.{drop-cons}
-use Rattle.std.proofs.Math.Numerals.{add-one}
 use Rattle.wide_sums.specs.Total.{total_of}
 use Rattle.pt_net.specs.Markings.{counts_of, IsInRange}
 use Rattle.pt_net.specs.Systems.{NetSystem, instance_at}
@@ -91,25 +89,6 @@ cells_check-counts ys taken put taken_within put_within =
     ap keeps_total (cells_check-dense ys taken put taken_within put_within)
     ∙ keeps_as_judged (products ys (counts_of (length ys) put) ++ map neg_ℤ (products ys (counts_of (length ys) taken)))
 
-drop_next : {X : Type 0} (xs : List X) (i : ℕ) (d : X) → i < length xs → drop i xs ≡ get_or xs i d ∷ drop (i + 1) xs
-drop_next xs i d within = rw add-one (drop-cons xs i d within)
-
--- the check of the next instance decides, or the rest
-pub rows_decided : (flow at : ℕ) (ys : List ℤ) (system : NetSystem) (verdict : Check) (taken put : List Cell) (whole : Judged) → at < length system.instances
-    → verdict ≡ step_check ys (counts_of (length ys) taken) (counts_of (length ys) put)
-    → taken ≡ (instance_at system at).pre → put ≡ (instance_at system at).post
-    → whole ≡ judged_rows flow at (drop at (row_checks ys system.instances))
-    → whole ≡ then_judged (Step flow at) verdict (judged_rows flow (at + 1) (drop (at + 1) (row_checks ys system.instances)))
-rows_decided flow at ys system verdict taken put whole within is taken_is put_is so_far =
-    let inside : at < length (row_checks ys system.instances) = omega (arith, length-map system.instances (instance_check ys)) in
-    let here : get_or (row_checks ys system.instances) at verdict ≡ verdict =
-    get_or-map (instance_check ys) system.instances at (record { transition = 0; binding = 0; pre = []; post = [] }) verdict within
-    ∙ sym (is ∙ ap (λ cells. step_check ys (counts_of (length ys) cells) (counts_of (length ys) put)) taken_is
-    ∙ ap (λ cells. step_check ys (counts_of (length ys) (instance_at system at).pre) (counts_of (length ys) cells)) put_is) in
-    so_far
-    ∙ ap (judged_rows flow at) (drop_next (row_checks ys system.instances) at verdict inside)
-    ∙ ap (λ k. then_judged (Step flow at) k (judged_rows flow (at + 1) (drop (at + 1) (row_checks ys system.instances)))) here
-
 -- the instances are checked as the transitions of the file
 instances_checked : (net : PlainNet) (system : NetSystem) (flow : Flow) (ys : List ℤ) → AreRowsOf net system → ys ≡ coefficients net (flow_slack net flow) → length ys ≡ length net.places
     → row_checks ys system.instances ≡ map (flow_check net flow) net.transitions
@@ -139,7 +118,7 @@ flows_decided net system ids flows at d ys verdict whole within rows places spre
     spread ∙ ap (map (weight_on (get_or flows at d).weights)) places ∙ map-map (weight_on (get_or flows at d).weights) (λ (place : Place). place.id) net.places in
     let long : length ys ≡ length net.places = ap length are ∙ length-map net.places _ in
     so_far
-    ∙ ap (flows_from net at) (drop_next flows at d within)
+    ∙ ap (flows_from net at) (drop_more flows at d within)
     ∙ flows_from-first net at (get_or flows at d) (drop (at + 1) flows)
     ∙ ap (λ checks. or_else (judged_rows at 0 checks) (flows_from net (at + 1) (drop (at + 1) flows))) (sym (instances_checked net system (get_or flows at d) ys rows are long))
     ∙ ap (λ j. or_else j (flows_from net (at + 1) (drop (at + 1) flows))) (sym is)

@@ -13,7 +13,7 @@ use Rattle.plain_model.proofs.Products.{mul_counts, mul_zero}
 use Rattle.plain_judge.specs.Coefficients.{raised, Raises}
 
 -- a name and the one at its number are the same
-number_in-is : (names : List (List ℕ)) (name : List ℕ) (place : ℕ) → number_in names name ≡ Some place → (place < length names) × (get_or names place [] ≡ name)
+pub number_in-is : (names : List (List ℕ)) (name : List ℕ) (place : ℕ) → number_in names name ≡ Some place → (place < length names) × (get_or names place [] ≡ name)
 number_in-is names name place found =
     let at = position-Some (bytes_eq name) names place [] found in
     (at.0, sym ((bytes_decides name (get_or names place [])).0 at.1))
@@ -21,7 +21,7 @@ number_in-is names name place found =
 same_bytes : (name : List ℕ) → bytes_eq name name ≡ true
 same_bytes name = (bytes_decides name name).1 refl
 
-other_bytes : (one other : List ℕ) → one ≢ other → bytes_eq one other ≡ false
+pub other_bytes : (one other : List ℕ) → one ≢ other → bytes_eq one other ≡ false
 other_bytes one other apart = cases (bytes_eq one other) (bytes_decides one other).0
   where
     cases : (b : Bool) → (b ≡ true → one ≡ other) → b ≡ false
@@ -38,6 +38,15 @@ other_name names q place distinct within there apart = cases (compared q place)
     cases (inl same) = absurd (apart same)
     cases (inr (inl below)) = distinct q place [] below there
     cases (inr (inr above)) = λ e. distinct place q [] above within (sym e)
+
+-- one name stands at one place
+pub same_place : (names : List (List ℕ)) (q place : ℕ) → AreDistinct names → q < length names → place < length names → get_or names q [] ≡ get_or names place [] → q ≡ place
+same_place names q place distinct within there same = cases (compared q place)
+  where
+    cases : (q ≡ place) ⊎ ((q < place) ⊎ (place < q)) → q ≡ place
+    cases (inl e) = e
+    cases (inr (inl below)) = absurd (distinct q place [] below there same)
+    cases (inr (inr above)) = absurd (distinct place q [] above within (sym same))
 
 -- raising the coefficient of a named place adds to what each place has risen by
 pub Raises-raised : (names : List (List ℕ)) (more now : List ℕ → ℤ) (old mid new : List ℤ) (place : ℕ) (name : List ℕ) (value : ℤ)

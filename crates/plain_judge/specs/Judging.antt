@@ -23,6 +23,10 @@ then_judged spot check.True next = next
 then_judged spot check.False next = NotShown spot
 then_judged spot check.Wide next = Range spot
 
+-- what the step of a flow at a transition says
+abbrev pub step_judged : ℕ → ℕ → Check → Judged
+step_judged flow transition verdict = then_judged (Step flow transition) verdict Shown
+
 -- the steps of a flow from a transition on
 abbrev pub judged_rows : ℕ → ℕ → List Check → Judged
 judged_rows flow transition [] = Shown

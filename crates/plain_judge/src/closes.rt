@@ -13,8 +13,9 @@ use crate::constants::{constant_of_flow, constant_of_hypothesis};
 use crate::faults::{JudgeFault, NotYet};
 use crate::residuals::{add_multiple, add_part, empty_coefficients, empty_sums, is_none_positive};
 use crate::spreads::{spread_hypothesis, spread_weights};
-use name_tables::{Ids, Name};
+use name_tables::Name;
 use plain_model::{Certificate, Check, Flow, Multiplier, PlainNet, Property};
+use plain_rows::Numbers;
 use std::alloc::Global;
 use wide_sums::{Sum, Wide};
 
@@ -36,7 +37,7 @@ impl From<NotYet> for SumFault {
 /// Writes the coefficients of a flow, and gives the constant of its slack form.
 pub fn spread_flow(
     net: &PlainNet,
-    ids: &Ids,
+    ids: &Numbers<'_>,
     flow: &Flow,
     coefficients: &mut [i64],
 ) -> Result<i128, SumFault>
@@ -61,9 +62,9 @@ pub fn spread_flow(
 /// Writes the coefficients of the flow with this name, and gives the constant of its slack form.
 fn spread_named(
     net: &PlainNet,
-    ids: &Ids,
+    ids: &Numbers<'_>,
     flows: &[Flow],
-    names: &Ids,
+    names: &Numbers<'_>,
     name: &Name,
     coefficients: &mut [i64],
 ) -> Result<i128, SumFault>
@@ -85,10 +86,10 @@ fn spread_named(
 /// Writes the coefficients of the slack form that a summand multiplies, and gives its constant.
 fn spread_slack(
     net: &PlainNet,
-    ids: &Ids,
+    ids: &Numbers<'_>,
     property: &Property,
     flows: &[Flow],
-    names: &Ids,
+    names: &Numbers<'_>,
     multiplier: &Multiplier,
     coefficients: &mut [i64],
 ) -> Result<i128, SumFault>
@@ -140,10 +141,10 @@ fn has_right_sign(multiplier: &Multiplier) -> bool
 /// Adds up the summands: the residual's coefficients into the sums, and its constant.
 fn add_up(
     net: &PlainNet,
-    ids: &Ids,
+    ids: &Numbers<'_>,
     property: &Property,
     certificate: &Certificate,
-    names: &Ids,
+    names: &Numbers<'_>,
     coefficients: &mut [i64],
     sums: &mut [Sum],
 ) -> Result<i128, SumFault>
@@ -205,10 +206,10 @@ fn have_right_signs(multipliers: &[Multiplier]) -> bool
 /// Whether the `close` line, whose signs are right, refutes the negated invariant.
 fn check_sums(
     net: &PlainNet,
-    ids: &Ids,
+    ids: &Numbers<'_>,
     property: &Property,
     certificate: &Certificate,
-    names: &Ids,
+    names: &Numbers<'_>,
     coefficients: &mut [i64],
     sums: &mut [Sum],
 ) -> Result<Check, JudgeFault>
@@ -230,10 +231,10 @@ fn check_sums(
 pub fn check_close(
     alloc: Global,
     net: &PlainNet,
-    ids: &Ids,
+    ids: &Numbers<'_>,
     property: &Property,
     certificate: &Certificate,
-    names: &Ids,
+    names: &Numbers<'_>,
 ) -> Result<Check, JudgeFault>
     requires places { ids.now ≡ place_ids net.now }
     requires distinct { AreDistinct ids.now }

@@ -1,9 +1,12 @@
 //! Whether a certificate is of the first grammar.
-ghost use Rattle.std.specs.Prelude.{◌≡◌, length, vec_len, IfOk};
+ghost use Rattle.std.specs.Prelude.{◌≡◌, ◌<◌, ◌^◌, map, length, unsigned_abs, vec_len, IfOk, OnOk, All, AllPairs};
+ghost use Rattle.std.specs.Bool.{OnTrue};
+ghost use Rattle.plain_model.specs.Plain.{AreDistinct, IsPlainCertificate, IsPlainFlow, IsPlainMultiplier, IsPlainWeight, MultiplyApart, flow_names, place_ids};
 
 use crate::faults::JudgeFault;
-use name_tables::Ids;
-use plain_model::{Certificate, Flow, Multiplier, Property};
+use name_tables::is_id;
+use plain_model::{Certificate, Flow, Multiplier, PlainNet, Property, Weight};
+use plain_rows::Numbers;
 use std::alloc::Global;
 use wide_sums::Memory;
 
@@ -14,18 +17,28 @@ fn no_marks(alloc: Global, count: usize) -> Result<Vec<u32>, Memory>
     Ok(vec![in alloc; 0u32; count]?)
 }
 
-/// Whether the flow has coefficients in range on places of the net, each place at most once.
-///
-/// A place with this mark already was met in this flow; marks of earlier flows are lower.
-fn is_flow(ids: &Ids, flow: &Flow, marks: &mut [u32], mark: u32) -> bool
-    requires { length marks.old ≡ length ids.now }
+/// Whether a value of a certificate is in range.
+fn is_in_range(value: i64) -> bool
+    ensures { OnTrue result (unsigned_abs value < 2 ^ 63) }
 {
-    for weight in flow.weights.as_slice() {
-        let place = match ids.find(weight.place.bytes()) {
+    value != i64::MIN
+}
+
+/// Whether the weights are in range and on places of the net, each place at most once.
+///
+/// A place with this mark already was met among these weights; the marks of earlier ones are lower.
+fn are_weights(places: &Numbers<'_>, weights: &[Weight], marks: &mut [u32], mark: u32) -> bool
+    requires { length marks.old ≡ length places.now }
+    ensures long { length marks.new ≡ length marks.old }
+    ensures plain { OnTrue result (All (IsPlainWeight places.now) weights.now) }
+    ensures once { OnTrue result (AreDistinct (map (λ weight. weight.place) weights.now)) }
+{
+    for weight in weights {
+        let place = match places.find(weight.place.bytes()) {
             Some(place) => place as usize,
             None => return false,
         };
-        if marks[place] == mark || weight.value == i64::MIN {
+        if marks[place] == mark || !is_in_range(weight.value) {
             return false;
         }
         marks[place] = mark;
@@ -33,9 +46,19 @@ fn is_flow(ids: &Ids, flow: &Flow, marks: &mut [u32], mark: u32) -> bool
     true
 }
 
+/// Whether the flow has a name and coefficients in form.
+fn is_flow(places: &Numbers<'_>, flow: &Flow, marks: &mut [u32], mark: u32) -> bool
+    requires { length marks.old ≡ length places.now }
+    ensures long { length marks.new ≡ length marks.old }
+    ensures plain { OnTrue result (IsPlainFlow places.now flow.now) }
+{
+    is_id(flow.name.bytes()) && are_weights(places, flow.weights.as_slice(), marks, mark)
+}
+
 /// Whether all flows are in form.
-fn are_flows(ids: &Ids, flows: &[Flow], marks: &mut [u32]) -> bool
-    requires { length marks.old ≡ length ids.now }
+fn are_flows(places: &Numbers<'_>, flows: &[Flow], marks: &mut [u32]) -> bool
+    requires { length marks.old ≡ length places.now }
+    ensures { OnTrue result (All (IsPlainFlow places.now) flows.now) }
 {
     let mut mark = 0u32;
     for flow in flows {
@@ -43,7 +66,7 @@ fn are_flows(ids: &Ids, flows: &[Flow], marks: &mut [u32]) -> bool
             return false;
         }
         mark += 1;
-        if !is_flow(ids, flow, marks, mark) {
+        if !is_flow(places, flow, marks, mark) {
             return false;
         }
     }
@@ -51,8 +74,10 @@ fn are_flows(ids: &Ids, flows: &[Flow], marks: &mut [u32]) -> bool
 }
 
 /// Whether the summands multiply facts of the certificate and the one hypothesis, each at most once.
-fn are_multipliers(names: &Ids, close: &[Multiplier], marks: &mut [u32]) -> bool
+fn are_multipliers(names: &Numbers<'_>, close: &[Multiplier], marks: &mut [u32]) -> bool
     requires { length marks.old ≡ length names.now }
+    ensures plain { OnTrue result (All (IsPlainMultiplier names.now) close.now) }
+    ensures once { OnTrue result (AllPairs MultiplyApart close.now) }
 {
     let mut is_hypothesis_met = false;
     for multiplier in close {
@@ -62,13 +87,13 @@ fn are_multipliers(names: &Ids, close: &[Multiplier], marks: &mut [u32]) -> bool
                     Some(fact) => fact as usize,
                     None => return false,
                 };
-                if marks[fact] != 0 || factor.value == i64::MIN {
+                if marks[fact] == 1 || !is_in_range(factor.value) {
                     return false;
                 }
                 marks[fact] = 1;
             }
             Multiplier::Hypothesis { value, number } => {
-                if is_hypothesis_met || *number != 1 || *value == i64::MIN {
+                if is_hypothesis_met || *number != 1 || !is_in_range(*value) {
                     return false;
                 }
                 is_hypothesis_met = true;
@@ -81,16 +106,22 @@ fn are_multipliers(names: &Ids, close: &[Multiplier], marks: &mut [u32]) -> bool
 /// Examines the certificate for the property; `NotYet` comes where it isn't of the first grammar.
 pub fn examine(
     alloc: Global,
-    ids: &Ids,
+    net: &PlainNet,
+    places: &Numbers<'_>,
     property: &Property,
     certificate: &Certificate,
-    names: &Ids,
-) -> Result<(), JudgeFault> {
-    if certificate.property != property.id {
+    names: &Numbers<'_>,
+) -> Result<(), JudgeFault>
+    requires places { places.now ≡ place_ids net.now }
+    requires names { names.now ≡ flow_names certificate.now }
+    requires distinct { AreDistinct names.now }
+    ensures { OnOk result (IsPlainCertificate net.now property.now certificate.now) }
+{
+    if certificate.property.bytes() != property.id.bytes() {
         return Err(JudgeFault::NotYet);
     }
-    let mut places = no_marks(alloc, ids.count() as usize)?;
-    if !are_flows(ids, certificate.flows.as_slice(), &mut places) {
+    let mut marks = no_marks(alloc, places.count() as usize)?;
+    if !are_flows(places, certificate.flows.as_slice(), &mut marks) {
         return Err(JudgeFault::NotYet);
     }
     let mut facts = no_marks(alloc, names.count() as usize)?;

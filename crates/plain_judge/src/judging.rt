@@ -1,53 +1,28 @@
 //! The judgement of a whole certificate.
-ghost use Rattle.std.specs.Prelude.{◌≡◌, IfOk};
+ghost use Rattle.std.specs.Prelude.{◌≡◌, IfOk, OnOk};
 ghost use Rattle.plain_model.specs.Obligations.{judgement};
-ghost use Rattle.plain_judge.specs.Judging.{flows_judged};
-ghost use Rattle.plain_model.specs.Plain.{AreDistinct, IsPlainNet, flow_names, place_ids};
-ghost use Rattle.plain_rows.specs.Rows.{AreRowsOf, IsLayoutOf};
+ghost use Rattle.plain_model.specs.Plain.{AreDistinct, IsPlainCertificate, IsPlainNet, flow_names, place_ids};
+ghost use Rattle.plain_rows.specs.Rows.{AreRowsOf};
 
 use crate::closes::check_close;
 use crate::examining::examine;
-use crate::faults::{JudgeFault, NotYet};
+use crate::faults::JudgeFault;
 use crate::flows::judge_flows;
 use crate::naming::names_of;
-use crate::residuals::empty_coefficients;
-use name_tables::Ids;
 use plain_model::{Certificate, Check, Judged, PlainNet, Property, Spot};
-use plain_rows::PlainRows;
+use plain_rows::{Numbers, PlainRows};
 use pt_net::PtNet;
 use std::alloc::Global;
-
-/// Judges the flows in order, with scratch memory of its own.
-fn judge_steps_of_flows(
-    alloc: Global,
-    net: &PlainNet,
-    ids: &Ids,
-    system: &PtNet,
-    certificate: &Certificate,
-    names: &Ids,
-) -> Result<Judged, JudgeFault>
-    requires places { ids.now ≡ place_ids net.now }
-    requires distinct { AreDistinct ids.now }
-    requires rows { AreRowsOf net.now system.now }
-    requires names { names.now ≡ flow_names certificate.now }
-    ensures { IfOk result (λ judged. judged ≡ flows_judged net.now certificate.now.flows) }
-{
-    let mut coefficients = empty_coefficients(alloc, ids.count() as usize)?;
-    match judge_flows(net, ids, system, certificate, names, &mut coefficients) {
-        Ok(judged) => Ok(judged),
-        Err(NotYet) => Err(JudgeFault::NotYet),
-    }
-}
 
 /// Judges all obligations in order: the first one that isn't true decides.
 fn judge_all(
     alloc: Global,
     net: &PlainNet,
-    ids: &Ids,
+    ids: &Numbers<'_>,
     system: &PtNet,
     property: &Property,
     certificate: &Certificate,
-    names: &Ids,
+    names: &Numbers<'_>,
 ) -> Result<Judged, JudgeFault>
     requires places { ids.now ≡ place_ids net.now }
     requires distinct { AreDistinct ids.now }
@@ -55,7 +30,7 @@ fn judge_all(
     requires names { names.now ≡ flow_names certificate.now }
     ensures { IfOk result (λ judged. judged ≡ judgement net.now property.now certificate.now) }
 {
-    match judge_steps_of_flows(alloc, net, ids, system, certificate, names) {
+    match judge_flows(alloc, net, ids, system, certificate, names) {
         Ok(Judged::Shown) => {}
         Ok(Judged::NotShown(spot)) => return Ok(Judged::NotShown(spot)),
         Ok(Judged::Range(spot)) => return Ok(Judged::Range(spot)),
@@ -77,17 +52,18 @@ fn judge_all(
 pub fn judge(
     alloc: Global,
     net: &PlainNet,
-    rows: &PlainRows,
+    rows: &PlainRows<'_>,
     property: &Property,
     certificate: &Certificate,
 ) -> Result<Judged, JudgeFault>
     requires plain { IsPlainNet net.now }
-    requires layout { IsLayoutOf net.now rows.now.layout }
+    requires places { rows.now.places ≡ place_ids net.now }
     requires rows { AreRowsOf net.now rows.now.net }
+    ensures plain { OnOk result (IsPlainCertificate net.now property.now certificate.now) }
     ensures judged { IfOk result (λ judged. judged ≡ judgement net.now property.now certificate.now) }
 {
-    let ids = rows.layout.places();
+    let ids = &rows.places;
     let names = names_of(alloc, certificate.flows.as_slice())?;
-    examine(alloc, ids, property, certificate, &names)?;
+    examine(alloc, net, ids, property, certificate, &names)?;
     judge_all(alloc, net, ids, &rows.net, property, certificate, &names)
 }

@@ -9,9 +9,11 @@ mod constants;
 mod examining;
 mod faults;
 mod flows;
+mod incidences;
 mod judging;
 mod naming;
 mod residuals;
+mod searches;
 mod spreads;
 mod steps;
 #[cfg(test)]

@@ -1,5 +1,5 @@
 //! The residual of a `close` line: its coefficients and its constant, as exact sums.
-ghost use Rattle.std.specs.Prelude.{◌≡◌, ◌^◌, ◌≤◌, ◌<◌, length, OnOk, OnErr, IfOk, pos, ◌*ℤ◌, int_le, replicate, vec_len};
+ghost use Rattle.std.specs.Prelude.{◌≡◌, ◌^◌, ◌≤◌, ◌<◌, length, OnOk, OnErr, IfOk, pos, ◌*ℤ◌, int_le, replicate};
 ghost use Rattle.plain_judge.specs.Residuals.{AddsPart, FitPart, IsPartWide};
 ghost use Rattle.std.specs.List.{list_all};
 ghost use Rattle.wide_sums.specs.Total.{with_term, zero_total};
@@ -16,7 +16,7 @@ pub fn empty_sums(alloc: Global, places: usize) -> Result<Vec<Sum>, Memory>
 
 /// The coefficient 0 for each place.
 pub fn empty_coefficients(alloc: Global, places: usize) -> Result<Vec<i64>, Memory>
-    ensures { IfOk result (λ coefficients. vec_len coefficients ≡ places) }
+    ensures { IfOk result (λ coefficients. coefficients.items ≡ replicate places (pos 0)) }
 {
     Ok(vec![in alloc; 0i64; places]?)
 }

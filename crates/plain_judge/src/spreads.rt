@@ -1,12 +1,13 @@
 //! Coefficients as a list with one number per place.
-ghost use Rattle.std.specs.Prelude.{◌≡◌, ◌<◌, length, map, pos, ◌*ℤ◌, OnOk};
+ghost use Rattle.std.specs.Prelude.{◌≡◌, ◌<◌, length, map, pos, replicate, ◌*ℤ◌, OnOk};
 ghost use Rattle.plain_judge.specs.Coefficients.{Raises, raised};
 ghost use Rattle.plain_model.specs.Forms.{hypothesis_slack, times_in, times_listed, weight_on};
 ghost use Rattle.plain_model.specs.Plain.{AreDistinct};
 
 use crate::faults::NotYet;
-use name_tables::{Ids, Name};
+use name_tables::Name;
 use plain_model::{Count, Property, Weight};
+use plain_rows::Numbers;
 
 /// Adds a value to the coefficient of one place.
 fn raise(coefficients: &mut [i64], place: usize, value: i64) -> Result<(), NotYet>
@@ -23,7 +24,11 @@ fn raise(coefficients: &mut [i64], place: usize, value: i64) -> Result<(), NotYe
 }
 
 /// Adds to the coefficient of each place what the weights say of it.
-fn add_weights(ids: &Ids, weights: &[Weight], coefficients: &mut [i64]) -> Result<(), NotYet>
+fn add_weights(
+    ids: &Numbers<'_>,
+    weights: &[Weight],
+    coefficients: &mut [i64],
+) -> Result<(), NotYet>
     requires distinct { AreDistinct ids.now }
     requires long { length coefficients.old ≡ length ids.now }
     ensures { OnOk result (Raises ids.now (weight_on weights.now) coefficients.old coefficients.new) }
@@ -39,7 +44,7 @@ fn add_weights(ids: &Ids, weights: &[Weight], coefficients: &mut [i64]) -> Resul
 
 /// Adds a value to the coefficient of each listed place, as often as it is listed.
 fn add_listed(
-    ids: &Ids,
+    ids: &Numbers<'_>,
     listed: &[Name],
     value: i64,
     coefficients: &mut [i64],
@@ -58,7 +63,12 @@ fn add_listed(
 }
 
 /// Adds a value to the coefficient of each place that the count lists.
-fn add_count(ids: &Ids, count: &Count, value: i64, coefficients: &mut [i64]) -> Result<(), NotYet>
+fn add_count(
+    ids: &Numbers<'_>,
+    count: &Count,
+    value: i64,
+    coefficients: &mut [i64],
+) -> Result<(), NotYet>
     requires distinct { AreDistinct ids.now }
     requires long { length coefficients.old ≡ length ids.now }
     ensures { OnOk result (Raises ids.now (λ id. value *ℤ pos (times_listed count.now id)) coefficients.old coefficients.new) }
@@ -73,7 +83,11 @@ fn add_count(ids: &Ids, count: &Count, value: i64, coefficients: &mut [i64]) -> 
 }
 
 /// Writes the coefficients of the weights, in place of what stood there.
-pub fn spread_weights(ids: &Ids, weights: &[Weight], coefficients: &mut [i64]) -> Result<(), NotYet>
+pub fn spread_weights(
+    ids: &Numbers<'_>,
+    weights: &[Weight],
+    coefficients: &mut [i64],
+) -> Result<(), NotYet>
     requires distinct { AreDistinct ids.now }
     requires long { length coefficients.old ≡ length ids.now }
     ensures { OnOk result (coefficients.new ≡ map (weight_on weights.now) ids.now) }
@@ -83,9 +97,38 @@ pub fn spread_weights(ids: &Ids, weights: &[Weight], coefficients: &mut [i64]) -
     Ok(())
 }
 
+/// Adds the weights to coefficients that all are 0.
+pub fn spread_on_zeros(
+    ids: &Numbers<'_>,
+    weights: &[Weight],
+    coefficients: &mut [i64],
+) -> Result<(), NotYet>
+    requires distinct { AreDistinct ids.now }
+    requires zeros { coefficients.old ≡ replicate (length ids.now) (pos 0) }
+    ensures { OnOk result (coefficients.new ≡ map (weight_on weights.now) ids.now) }
+{
+    add_weights(ids, weights, coefficients)?;
+    Ok(())
+}
+
+/// Writes 0 at the places of the weights, so that all coefficients are 0 again.
+pub fn clear_weights(ids: &Numbers<'_>, weights: &[Weight], coefficients: &mut [i64]) -> Result<(), NotYet>
+    requires distinct { AreDistinct ids.now }
+    requires spread { coefficients.old ≡ map (weight_on weights.now) ids.now }
+    ensures { OnOk result (coefficients.new ≡ replicate (length ids.now) (pos 0)) }
+{
+    for weight in weights {
+        match ids.find(weight.place.bytes()) {
+            Some(place) => coefficients[place as usize] = 0,
+            None => return Err(NotYet),
+        }
+    }
+    Ok(())
+}
+
 /// Writes the coefficients of the negated invariant, in place of what stood there.
 pub fn spread_hypothesis(
-    ids: &Ids,
+    ids: &Numbers<'_>,
     property: &Property,
     coefficients: &mut [i64],
 ) -> Result<(), NotYet>

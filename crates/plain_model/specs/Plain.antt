@@ -44,29 +44,32 @@ pub record IsPlainNet (net : PlainNet) : Type 0 where
   pub markings : All (λ place. place.marking < 2 ^ 63) net.places
   pub weights : All (λ arc. (0 < arc.weight) × (arc.weight < 2 ^ 63)) net.arcs
 
-abbrev pub IsPlainCount : PlainNet → Count → Type 0
-IsPlainCount net (Number number) = number < 2 ^ 63
-IsPlainCount net (Tokens ids) = (0 < length ids) × All (Contains (place_ids net)) ids
+-- a number in range, or tokens on some of these places
+abbrev pub IsPlainCount : List (List ℕ) → Count → Type 0
+IsPlainCount places (Number number) = number < 2 ^ 63
+IsPlainCount places (Tokens ids) = (0 < length ids) × All (Contains places) ids
 
 pub record IsPlainProperty (net : PlainNet) (property : Property) : Type 0 where
   pub id : IsId property.id
-  pub left : IsPlainCount net property.left
-  pub right : IsPlainCount net property.right
+  pub left : IsPlainCount (place_ids net) property.left
+  pub right : IsPlainCount (place_ids net) property.right
 
-abbrev pub IsPlainWeight : PlainNet → Weight → Type 0
-IsPlainWeight net weight = (unsigned_abs weight.value < 2 ^ 63) × Contains (place_ids net) weight.place
+-- a coefficient in range on one of these places
+abbrev pub IsPlainWeight : List (List ℕ) → Weight → Type 0
+IsPlainWeight places weight = (unsigned_abs weight.value < 2 ^ 63) × Contains places weight.place
 
-pub record IsPlainFlow (net : PlainNet) (flow : Flow) : Type 0 where
+pub record IsPlainFlow (places : List (List ℕ)) (flow : Flow) : Type 0 where
   pub name : IsId flow.name
-  pub weights : All (IsPlainWeight net) flow.weights
+  pub weights : All (IsPlainWeight places) flow.weights
   pub once : AreDistinct (map (λ weight. weight.place) flow.weights)
 
 abbrev pub flow_names : Certificate → List (List ℕ)
 flow_names certificate = map (λ flow. flow.name) certificate.flows
 
-abbrev pub IsPlainMultiplier : Certificate → Multiplier → Type 0
-IsPlainMultiplier certificate (Fact factor) = (unsigned_abs factor.value < 2 ^ 63) × Contains (flow_names certificate) factor.fact
-IsPlainMultiplier certificate (Hypothesis value number) = (unsigned_abs value < 2 ^ 63) × (number ≡ 1)
+-- a multiplier in range of one of these facts, or of the one hypothesis
+abbrev pub IsPlainMultiplier : List (List ℕ) → Multiplier → Type 0
+IsPlainMultiplier facts (Fact factor) = (unsigned_abs factor.value < 2 ^ 63) × Contains facts factor.fact
+IsPlainMultiplier facts (Hypothesis value number) = (unsigned_abs value < 2 ^ 63) × (number ≡ 1)
 
 -- the summands don't multiply the same fact or hypothesis
 abbrev pub MultiplyApart : Multiplier → Multiplier → Type 0
@@ -77,7 +80,7 @@ MultiplyApart (Hypothesis _ _) (Fact _) = Unit {0}
 
 pub record IsPlainCertificate (net : PlainNet) (property : Property) (certificate : Certificate) : Type 0 where
   pub named : certificate.property ≡ property.id
-  pub flows : All (IsPlainFlow net) certificate.flows
+  pub flows : All (IsPlainFlow (place_ids net)) certificate.flows
   pub names : AreDistinct (flow_names certificate)
-  pub close : All (IsPlainMultiplier certificate) certificate.close
+  pub close : All (IsPlainMultiplier (flow_names certificate)) certificate.close
   pub once : AllPairs MultiplyApart certificate.close

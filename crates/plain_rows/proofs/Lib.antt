@@ -2,5 +2,4 @@ pub mod Distinct
 pub mod Rows
 pub mod Ends
 pub mod Built
-pub mod Layouts
 pub mod Reaches

@@ -1,21 +1,11 @@
--- The layout and the rows of the net of a file.
-use Rattle.std.specs.Prelude.{◌≡◌, ℕ, ◌+◌, List, length, replicate, Some, slice_get, ◌↔◌}
-use Rattle.std.specs.List.{range_with_len}
+-- The rows of the net of a file.
+use Rattle.std.specs.Prelude.{◌≡◌, ℕ, List, length, Some, slice_get, ◌↔◌}
 use Rattle.pt_net.specs.declared.instances.Instance.{Instance}
 use Rattle.pt_net.specs.Instances.{origin_of}
 use Rattle.pt_net.specs.Markings.{counts_of}
-use Rattle.pt_net.specs.Numbering.{NetNumbering}
 use Rattle.pt_net.specs.Systems.{NetSystem, instance_at, PtReach}
 use Rattle.plain_model.specs.declared.nets.PlainNet.{PlainNet}
-use Rattle.plain_model.specs.Plain.{place_ids}
 use Rattle.plain_model.specs.Firing.{inputs, outputs, initial, Reach}
-
--- the places and the transitions in their order: each place has one instance, and each transition one binding
-pub record IsLayoutOf (net : PlainNet) (layout : NetNumbering) : Type 0 where
-  pub places : layout.places ≡ place_ids net
-  pub starts : layout.starts ≡ range_with_len 0 (length net.places + 1)
-  pub transitions : layout.transitions ≡ net.transitions
-  pub bindings : layout.bindings ≡ replicate (length net.transitions) 1
 
 -- the instance of the transition with this number and this id: its rows are what the transition takes and puts
 pub record IsInstanceOf (net : PlainNet) (number : ℕ) (id : List ℕ) (instance : Instance) : Type 0 where

@@ -1,60 +1,35 @@
-ghost use Rattle.std.specs.Prelude.{◌≡◌, ◌+◌, map, length, replicate, IfOk, OnOk};
-ghost use Rattle.std.specs.List.{range_with_len};
-ghost use Rattle.plain_model.specs.Plain.{IsId, IsPlainNet};
+ghost use Rattle.std.specs.Prelude.{◌≡◌, ◌<◌, ◌^◌, map, length, IfOk, OnOk};
+ghost use Rattle.plain_model.specs.Plain.{IsId, IsPlainNet, place_ids};
 ghost use Rattle.plain_rows.specs.Nodes.{AreNodes};
 ghost use Rattle.plain_rows.specs.Entries.{IsRearranged, AreBuilt};
-ghost use Rattle.plain_rows.specs.Rows.{IsLayoutOf, AreRowsOf, ReachTheSame};
+ghost use Rattle.plain_rows.specs.Rows.{AreRowsOf, ReachTheSame};
 
 use crate::entries::{Entry, entries_of};
 use crate::faults::BuildFault;
 use crate::filling::{empty_instances, fill};
-use crate::nodes::{add_places, add_transitions, number_nodes};
-use name_tables::{Ids, is_id};
+use crate::nodes::{add_places, number_nodes};
+use crate::numbers::Numbers;
+use name_tables::{Name, is_id};
 use plain_model::{Place, PlainNet};
-use pt_net::{Instance, Layout, PtNet};
+use pt_net::{Instance, PtNet};
 use std::alloc::Global;
 
 /// The net of a file, by the numbers of its places and transitions.
-#[derive(Debug, Drop)]
-pub struct PlainRows {
-    /// The ids of its places and transitions; each place has one instance and each transition one
-    /// binding.
-    pub layout: Layout,
+#[derive(Drop)]
+pub struct PlainRows<'a> {
+    /// The ids of its places, numbered in their order.
+    pub places: Numbers<'a>,
     /// Its initial marking, and an instance for each transition.
     pub net: PtNet,
 }
 
-/// The first instances of so many places with one instance each, and at the end their number.
-fn starts_of(alloc: Global, count: u32) -> Result<Vec<u32>, BuildFault>
-    ensures { IfOk result (λ starts. starts.items ≡ range_with_len 0 (count + 1)) }
+/// The ids of the places, numbered.
+fn number_places<'a>(alloc: Global, net: &'a PlainNet) -> Result<Numbers<'a>, BuildFault>
+    ensures { IfOk result (λ ids. ids ≡ place_ids net.now) }
 {
-    let mut starts = Vec::new(alloc);
-    for start in 0..count {
-        starts.push(start)?;
-    }
-    starts.push(count)?;
-    Ok(starts)
-}
-
-/// One binding for each of so many transitions.
-fn bindings_of(alloc: Global, count: u32) -> Result<Vec<u32>, BuildFault>
-    ensures { IfOk result (λ bindings. bindings.items ≡ replicate count 1) }
-{
-    let bindings = vec![in alloc; 1; count as usize]?;
-    Ok(bindings)
-}
-
-/// The layout of the net.
-fn layout_of(alloc: Global, net: &PlainNet) -> Result<Layout, BuildFault>
-    ensures { IfOk result (IsLayoutOf net.now) }
-{
-    let mut places = Ids::new(alloc);
-    add_places(alloc, &mut places, net.places.as_slice())?;
-    let mut transitions = Ids::new(alloc);
-    add_transitions(alloc, &mut transitions, net.transitions.as_slice())?;
-    let starts = starts_of(alloc, places.count())?;
-    let bindings = bindings_of(alloc, transitions.count())?;
-    Ok(Layout::new(places, starts, transitions, bindings))
+    let mut ids = Numbers::new(alloc);
+    add_places(&mut ids, net.places.as_slice())?;
+    Ok(ids)
 }
 
 /// The entries of the net, sorted by their places.
@@ -68,18 +43,22 @@ fn sorted_entries(alloc: Global, net: &PlainNet) -> Result<Vec<Entry>, BuildFaul
     Ok(entries)
 }
 
-/// The instances of the transitions of the net, of which there are so many.
-fn instances_of(
-    alloc: Global,
-    net: &PlainNet,
-    transitions: u32,
-) -> Result<Vec<Instance>, BuildFault>
-    requires { transitions ≡ length net.now.transitions }
+/// How many these transitions are.
+fn count_of(transitions: &[Name]) -> u32
+    requires { length transitions.now < 2 ^ 32 }
+    ensures { result ≡ length transitions.now }
+{
+    transitions.len() as u32
+}
+
+/// The instances of the transitions of the net.
+fn instances_of(alloc: Global, net: &PlainNet) -> Result<Vec<Instance>, BuildFault>
     ensures nodes { OnOk result (AreNodes net.now) }
     ensures instances { IfOk result (λ instances. AreBuilt net.now instances.items) }
 {
     let entries = sorted_entries(alloc, net)?;
-    let mut instances = empty_instances(alloc, transitions)?;
+    let count = count_of(net.transitions.as_slice());
+    let mut instances = empty_instances(alloc, count)?;
     fill(instances.as_mut_slice(), entries.as_slice())?;
     Ok(instances)
 }
@@ -93,32 +72,31 @@ fn initial_counts(alloc: Global, places: &[Place]) -> Result<Vec<u64>, BuildFaul
 }
 
 /// The net of sparse rows.
-fn net_of(alloc: Global, net: &PlainNet, transitions: u32) -> Result<PtNet, BuildFault>
-    requires { transitions ≡ length net.now.transitions }
+fn net_of(alloc: Global, net: &PlainNet) -> Result<PtNet, BuildFault>
     ensures plain { OnOk result (IsId net.now.id → IsPlainNet net.now) }
     ensures rows { IfOk result (AreRowsOf net.now) }
     ensures reach { IfOk result (ReachTheSame net.now) }
 {
-    let instances = instances_of(alloc, net, transitions)?;
+    let instances = instances_of(alloc, net)?;
     let initial = initial_counts(alloc, net.places.as_slice())?;
     Ok(PtNet::new(alloc, initial, instances)?)
 }
 
-/// The layout and the rows of the net of a file, in a time of about `n log n` of its size.
+/// The numbers and the rows of the net of a file, in a time of about `n log n` of its size.
 ///
 /// `NotYet` comes where the net isn't a plain net: where an id is none or is taken, an arc doesn't
 /// lead between a place and a transition, two arcs have both ends in common, a count is above
 /// 2^63 - 1 or a weight 0, or the net has 2^32 nodes or more.
-pub fn build(alloc: Global, net: &PlainNet) -> Result<PlainRows, BuildFault>
+pub fn build<'a>(alloc: Global, net: &'a PlainNet) -> Result<PlainRows<'a>, BuildFault>
     ensures plain { OnOk result (IsPlainNet net.now) }
-    ensures layout { IfOk result (λ rows. IsLayoutOf net.now rows.layout) }
+    ensures places { IfOk result (λ rows. rows.places ≡ place_ids net.now) }
     ensures rows { IfOk result (λ rows. AreRowsOf net.now rows.net) }
     ensures reach { IfOk result (λ rows. ReachTheSame net.now rows.net) }
 {
     if !is_id(net.id.bytes()) {
         return Err(BuildFault::NotYet);
     }
-    let layout = layout_of(alloc, net)?;
-    let net = net_of(alloc, net, layout.transitions().count())?;
-    Ok(PlainRows { layout, net })
+    let places = number_places(alloc, net)?;
+    let net = net_of(alloc, net)?;
+    Ok(PlainRows { places, net })
 }

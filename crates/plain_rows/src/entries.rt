@@ -4,7 +4,7 @@ ghost use Rattle.plain_rows.specs.Entries.{IsEntryOf, AreEntriesOf};
 
 use crate::faults::BuildFault;
 use crate::nodes::{Node, node_of};
-use name_tables::Ids;
+use crate::numbers::Numbers;
 use plain_model::{Arc, PlainNet};
 use pt_net::Side;
 use std::alloc::Global;
@@ -23,7 +23,7 @@ pub struct Entry {
 }
 
 /// The entry of an arc, `None` where it doesn't lead between a place and a transition.
-fn entry_of(nodes: &Ids, net: &PlainNet, arc: &Arc) -> Option<Entry>
+fn entry_of(nodes: &Numbers<'_>, net: &PlainNet, arc: &Arc) -> Option<Entry>
     requires { nodes.now ≡ node_ids net.now }
     ensures { IfSome result (IsEntryOf net.now arc.now) }
 {
@@ -47,7 +47,11 @@ fn entry_of(nodes: &Ids, net: &PlainNet, arc: &Arc) -> Option<Entry>
 }
 
 /// The entries of all arcs of the net, in their order.
-pub fn entries_of(alloc: Global, nodes: &Ids, net: &PlainNet) -> Result<Vec<Entry>, BuildFault>
+pub fn entries_of(
+    alloc: Global,
+    nodes: &Numbers<'_>,
+    net: &PlainNet,
+) -> Result<Vec<Entry>, BuildFault>
     requires { nodes.now ≡ node_ids net.now }
     ensures { IfOk result (λ entries. AreEntriesOf net.now net.now.arcs entries.items) }
 {

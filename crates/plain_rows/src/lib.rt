@@ -1,4 +1,4 @@
-//! The net of a file as a layout and a net of sparse rows.
+//! The net of a file as numbered places and a net of sparse rows.
 #![tactic(auto)]
 
 mod building;
@@ -6,9 +6,11 @@ mod entries;
 mod faults;
 mod filling;
 mod nodes;
+mod numbers;
 
 pub use building::{PlainRows, build};
 pub use faults::BuildFault;
+pub use numbers::Numbers;
 
 #[cfg(test)]
 mod tests;

@@ -3,7 +3,8 @@ ghost use Rattle.plain_model.specs.Plain.{IsId, node_ids, place_ids};
 ghost use Rattle.plain_rows.specs.Nodes.{IsNode, IsFreshPlace, IsFreshArc, AreNumbered, AreNodes};
 
 use crate::faults::BuildFault;
-use name_tables::{Added, Ids, Name, is_id};
+use crate::numbers::Numbers;
+use name_tables::{Added, Name, is_id};
 use plain_model::{Arc, Place, PlainNet};
 use std::alloc::Global;
 
@@ -20,7 +21,7 @@ pub enum Node {
 }
 
 /// Numbers one more node. `NotYet` comes where its id is none, or is taken.
-fn add_node(alloc: Global, ids: &mut Ids, id: &Name) -> Result<(), BuildFault>
+fn add_node<'a>(ids: &mut Numbers<'a>, id: &'a Name) -> Result<(), BuildFault>
     requires { AreNumbered ids.old }
     ensures added { OnOk result (ids.new ≡ ids.old ++ id.now ∷ []) }
     ensures numbered { OnOk result (AreNumbered ids.new) }
@@ -29,14 +30,14 @@ fn add_node(alloc: Global, ids: &mut Ids, id: &Name) -> Result<(), BuildFault>
     if ids.count() == u32::MAX || !is_id(id.bytes()) {
         return Err(BuildFault::NotYet);
     }
-    match ids.add(id.copy(alloc)?)? {
+    match ids.add(id.bytes())? {
         Added::New(_) => Ok(()),
         Added::Old(_) => Err(BuildFault::NotYet),
     }
 }
 
 /// Numbers these places.
-pub fn add_places(alloc: Global, ids: &mut Ids, places: &[Place]) -> Result<(), BuildFault>
+pub fn add_places<'a>(ids: &mut Numbers<'a>, places: &'a [Place]) -> Result<(), BuildFault>
     requires { AreNumbered ids.old }
     ensures added { OnOk result (ids.new ≡ ids.old ++ map (λ place. place.id) places.now) }
     ensures numbered { OnOk result (AreNumbered ids.new) }
@@ -46,26 +47,26 @@ pub fn add_places(alloc: Global, ids: &mut Ids, places: &[Place]) -> Result<(), 
         if place.marking > MAX_COUNT {
             return Err(BuildFault::NotYet);
         }
-        add_node(alloc, ids, &place.id)?;
+        add_node(ids, &place.id)?;
     }
     Ok(())
 }
 
 /// Numbers these transitions.
-pub fn add_transitions(alloc: Global, ids: &mut Ids, transitions: &[Name]) -> Result<(), BuildFault>
+fn add_transitions<'a>(ids: &mut Numbers<'a>, transitions: &'a [Name]) -> Result<(), BuildFault>
     requires { AreNumbered ids.old }
     ensures added { OnOk result (ids.new ≡ ids.old ++ transitions.now) }
     ensures numbered { OnOk result (AreNumbered ids.new) }
     ensures transitions { OnOk result (All IsId transitions.now) }
 {
     for transition in transitions {
-        add_node(alloc, ids, transition)?;
+        add_node(ids, transition)?;
     }
     Ok(())
 }
 
 /// Numbers these arcs.
-fn add_arcs(alloc: Global, ids: &mut Ids, arcs: &[Arc]) -> Result<(), BuildFault>
+fn add_arcs<'a>(ids: &mut Numbers<'a>, arcs: &'a [Arc]) -> Result<(), BuildFault>
     requires { AreNumbered ids.old }
     ensures added { OnOk result (ids.new ≡ ids.old ++ map (λ arc. arc.id) arcs.now) }
     ensures numbered { OnOk result (AreNumbered ids.new) }
@@ -75,26 +76,26 @@ fn add_arcs(alloc: Global, ids: &mut Ids, arcs: &[Arc]) -> Result<(), BuildFault
         if arc.weight == 0 || arc.weight > MAX_COUNT {
             return Err(BuildFault::NotYet);
         }
-        add_node(alloc, ids, &arc.id)?;
+        add_node(ids, &arc.id)?;
     }
     Ok(())
 }
 
 /// Numbers all nodes of the net: its places, its transitions and its arcs, in this order.
-pub fn number_nodes(alloc: Global, net: &PlainNet) -> Result<Ids, BuildFault>
+pub fn number_nodes<'a>(alloc: Global, net: &'a PlainNet) -> Result<Numbers<'a>, BuildFault>
     ensures nodes { IfOk result (λ ids. ids ≡ node_ids net.now) }
     ensures in_form { OnOk result (AreNodes net.now) }
 {
-    let mut ids = Ids::new(alloc);
-    add_places(alloc, &mut ids, net.places.as_slice())?;
-    add_transitions(alloc, &mut ids, net.transitions.as_slice())?;
-    add_arcs(alloc, &mut ids, net.arcs.as_slice())?;
+    let mut ids = Numbers::new(alloc);
+    add_places(&mut ids, net.places.as_slice())?;
+    add_transitions(&mut ids, net.transitions.as_slice())?;
+    add_arcs(&mut ids, net.arcs.as_slice())?;
     Ok(ids)
 }
 
 /// The node with this id among the numbered nodes of the net, `None` where no place and no
 /// transition has it.
-pub fn node_of(nodes: &Ids, net: &PlainNet, id: &Name) -> Option<Node>
+pub fn node_of(nodes: &Numbers<'_>, net: &PlainNet, id: &Name) -> Option<Node>
     requires { nodes.now ≡ node_ids net.now }
     ensures { IfSome result (IsNode net.now id.now) }
 {

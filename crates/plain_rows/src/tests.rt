@@ -42,11 +42,11 @@ fn ring(alloc: Global) -> Result<PlainNet, Memory> {
 
 #[test]
 fn the_ring_has_one_cell_in_each_row(rt: HostRuntime) -> Result<(), Fail> {
-    let rows = build(rt.alloc(), &ring(rt.alloc())?)?;
-    assert_eq!(rt; rows.layout.places().find(b"p1"), Some(1));
-    assert_eq!(rt; rows.layout.transitions().find(b"u"), Some(1));
-    assert_eq!(rt; rows.layout.starts(), [0, 1, 2].as_slice());
-    assert_eq!(rt; rows.layout.bindings(), [1, 1].as_slice());
+    let net = ring(rt.alloc())?;
+    let rows = build(rt.alloc(), &net)?;
+    assert_eq!(rt; rows.places.count(), 2);
+    assert_eq!(rt; rows.places.find(b"p1"), Some(1));
+    assert_eq!(rt; rows.places.find(b"t"), None);
     assert!(rt; rows.net.places() == 2);
     assert!(rt; rows.net.instances() == 2);
     assert_eq!(rt; rows.net.initial(0), 1);

@@ -3,35 +3,36 @@ ghost use Rattle.std.specs.Bool.{OnTrue};
 ghost use Rattle.plain_text.specs.Certificates.{certificate_text};
 
 use crate::certificate_writer::put_certificate;
+use crate::comparison::{Comparison, Differs};
 use crate::faults::TextFault;
-use crate::sink::Sink;
 use crate::source::{Source, id_of, index_of};
 use plain_model::{Certificate, Factor, Flow, Multiplier, Weight};
 use sqlite_items::Items;
 use std::alloc::Global;
-use wide_sums::Memory;
 
 /// The certificate whose canonical text these bytes are.
 ///
-/// `NotYet` where they are no such text, or an id or a number in it is out of form; `Memory` where there isn't the memory
-/// for the certificate and its text.
+/// `NotYet` where they are no such text, or an id or a number in it is out of form; `Memory` where
+/// there isn't the memory for the certificate.
 pub fn read_certificate(alloc: Global, bytes: &[u8]) -> Result<Certificate, TextFault>
     ensures { IfOk result (λ certificate. certificate_text certificate ≡ bytes.now) }
 {
     let certificate = candidate(alloc, bytes)?;
-    if is_text_of(alloc, &certificate, bytes)? {
+    if is_text_of(&certificate, bytes) {
         Ok(certificate)
     } else {
         Err(TextFault::NotYet)
     }
 }
 
-fn is_text_of(alloc: Global, certificate: &Certificate, bytes: &[u8]) -> Result<bool, Memory>
-    ensures { IfOk result (λ same. OnTrue same (certificate_text certificate.now ≡ bytes.now)) }
+fn is_text_of(certificate: &Certificate, bytes: &[u8]) -> bool
+    ensures { OnTrue result (certificate_text certificate.now ≡ bytes.now) }
 {
-    let mut sink = Sink::with_capacity(alloc, bytes.len())?;
-    put_certificate(&mut sink, certificate)?;
-    Ok(sink.is(bytes))
+    let mut comparison = Comparison::new(bytes);
+    match put_certificate(&mut comparison, certificate) {
+        Ok(()) => comparison.is(bytes),
+        Err(Differs) => false,
+    }
 }
 
 fn candidate(alloc: Global, bytes: &[u8]) -> Result<Certificate, TextFault> {

@@ -2,37 +2,38 @@ ghost use Rattle.std.specs.Prelude.{◌≡◌, ◌≤◌, IfOk, length};
 ghost use Rattle.std.specs.Bool.{OnTrue};
 ghost use Rattle.plain_text.specs.Nets.{net_text};
 
+use crate::comparison::{Comparison, Differs};
 use crate::faults::TextFault;
 use crate::net_writer::put_net;
-use crate::sink::Sink;
 use crate::source::Source;
 use name_tables::Name;
 use plain_model::{Arc, Place, PlainNet};
 use sqlite_items::Items;
 use std::alloc::Global;
-use wide_sums::Memory;
 
 /// The net whose canonical text these bytes are (ISO/IEC 15909-2, `ptnet`).
 ///
-/// `NotYet` where they are no such text, or an id or a number in it is out of form; `Memory` where there isn't the memory
-/// for the net and its text.
+/// `NotYet` where they are no such text, or an id or a number in it is out of form; `Memory` where
+/// there isn't the memory for the net.
 pub fn read_net(alloc: Global, bytes: &[u8]) -> Result<PlainNet, TextFault>
     ensures { IfOk result (λ net. net_text net ≡ bytes.now) }
 {
     let net = candidate(alloc, bytes)?;
-    if is_text_of(alloc, &net, bytes)? {
+    if is_text_of(&net, bytes) {
         Ok(net)
     } else {
         Err(TextFault::NotYet)
     }
 }
 
-fn is_text_of(alloc: Global, net: &PlainNet, bytes: &[u8]) -> Result<bool, Memory>
-    ensures { IfOk result (λ same. OnTrue same (net_text net.now ≡ bytes.now)) }
+fn is_text_of(net: &PlainNet, bytes: &[u8]) -> bool
+    ensures { OnTrue result (net_text net.now ≡ bytes.now) }
 {
-    let mut sink = Sink::with_capacity(alloc, bytes.len())?;
-    put_net(&mut sink, net)?;
-    Ok(sink.is(bytes))
+    let mut comparison = Comparison::new(bytes);
+    match put_net(&mut comparison, net) {
+        Ok(()) => comparison.is(bytes),
+        Err(Differs) => false,
+    }
 }
 
 fn candidate(alloc: Global, bytes: &[u8]) -> Result<PlainNet, TextFault> {

@@ -2,37 +2,38 @@ ghost use Rattle.std.specs.Prelude.{◌≡◌, ◌≤◌, IfOk, length};
 ghost use Rattle.std.specs.Bool.{OnTrue};
 ghost use Rattle.plain_text.specs.Properties.{property_text};
 
+use crate::comparison::{Comparison, Differs};
 use crate::faults::TextFault;
 use crate::property_writer::put_property;
-use crate::sink::Sink;
 use crate::source::Source;
 use name_tables::Name;
 use plain_model::{Count, Property};
 use sqlite_items::Items;
 use std::alloc::Global;
-use wide_sums::Memory;
 
 /// The property whose file has these bytes, in the canonical text (Model Checking Contest, `property-set`).
 ///
-/// `NotYet` where they are no such text, or an id or a number in it is out of form; `Memory` where there isn't the memory
-/// for the property and its text.
+/// `NotYet` where they are no such text, or an id or a number in it is out of form; `Memory` where
+/// there isn't the memory for the property.
 pub fn read_property(alloc: Global, bytes: &[u8]) -> Result<Property, TextFault>
     ensures { IfOk result (λ property. property_text property ≡ bytes.now) }
 {
     let property = candidate(alloc, bytes)?;
-    if is_text_of(alloc, &property, bytes)? {
+    if is_text_of(&property, bytes) {
         Ok(property)
     } else {
         Err(TextFault::NotYet)
     }
 }
 
-fn is_text_of(alloc: Global, property: &Property, bytes: &[u8]) -> Result<bool, Memory>
-    ensures { IfOk result (λ same. OnTrue same (property_text property.now ≡ bytes.now)) }
+fn is_text_of(property: &Property, bytes: &[u8]) -> bool
+    ensures { OnTrue result (property_text property.now ≡ bytes.now) }
 {
-    let mut sink = Sink::with_capacity(alloc, bytes.len())?;
-    put_property(&mut sink, property)?;
-    Ok(sink.is(bytes))
+    let mut comparison = Comparison::new(bytes);
+    match put_property(&mut comparison, property) {
+        Ok(()) => comparison.is(bytes),
+        Err(Differs) => false,
+    }
 }
 
 fn candidate(alloc: Global, bytes: &[u8]) -> Result<Property, TextFault> {

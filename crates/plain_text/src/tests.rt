@@ -1,13 +1,7 @@
-use crate::{
-    TextFault, read_certificate, read_net, read_property, write_certificate, write_net,
-    write_property,
-};
-use name_tables::Name;
-use plain_model::{Arc, Place, PlainNet};
-use sqlite_items::Items;
+use crate::{TextFault, read_certificate, read_net, read_property};
+use plain_model::{Count, Multiplier};
 use std::alloc::Global;
 use std::test::Fail;
-use wide_sums::Memory;
 
 fn ring_net() -> &'static [u8] {
     b"<?xml version=\"1.0\" encoding=\"UTF-8\"?>\n<pnml xmlns=\"http://www.pnml.org/version-2009/grammar/pnml\">\n<net id=\"n\" type=\"http://www.pnml.org/version-2009/grammar/ptnet\">\n<page id=\"page\">\n<place id=\"p0\">\n<initialMarking>\n<text>1</text>\n</initialMarking>\n</place>\n<place id=\"p1\"/>\n<transition id=\"t\"/>\n<transition id=\"u\"/>\n<arc id=\"a1\" source=\"p0\" target=\"t\"/>\n<arc id=\"a2\" source=\"t\" target=\"p1\"/>\n<arc id=\"a3\" source=\"p1\" target=\"u\"/>\n<arc id=\"a4\" source=\"u\" target=\"p0\"/>\n</page>\n</net>\n</pnml>\n"
@@ -37,70 +31,53 @@ fn written_marking_of_none() -> &'static [u8] {
     b"<?xml version=\"1.0\" encoding=\"UTF-8\"?>\n<pnml xmlns=\"http://www.pnml.org/version-2009/grammar/pnml\">\n<net id=\"n\" type=\"http://www.pnml.org/version-2009/grammar/ptnet\">\n<page id=\"page\">\n<place id=\"p\">\n<initialMarking>\n<text>0</text>\n</initialMarking>\n</place>\n</page>\n</net>\n</pnml>\n"
 }
 
-fn name(alloc: Global, text: &str) -> Result<Name, Memory> {
-    Name::new(alloc, text.as_bytes())
-}
-
-fn inscribed_net(alloc: Global) -> Result<PlainNet, Memory> {
-    let mut net = PlainNet {
-        id: name(alloc, "n")?,
-        places: Items::new(alloc),
-        transitions: Items::new(alloc),
-        arcs: Items::new(alloc),
-    };
-    net.places.push(Place {
-        id: name(alloc, "p")?,
-        marking: 9_223_372_036_854_775_807,
-    })?;
-    net.transitions.push(name(alloc, "t")?)?;
-    net.arcs.push(Arc {
-        id: name(alloc, "a")?,
-        source: name(alloc, "p")?,
-        target: name(alloc, "t")?,
-        weight: 20,
-    })?;
-    Ok(net)
-}
-
 #[test]
-fn a_net_is_read_and_written_back(rt: HostRuntime) -> Result<(), Fail> {
+fn the_ring_is_read(rt: HostRuntime) -> Result<(), Fail> {
     let net = read_net(rt.alloc(), ring_net())?;
+    assert_eq!(rt; net.id.bytes(), b"n".as_slice());
     assert_eq!(rt; net.places.len(), 2);
     assert_eq!(rt; net.transitions.len(), 2);
     assert_eq!(rt; net.arcs.len(), 4);
-    assert_eq!(rt; write_net(rt.alloc(), &net)?.as_slice(), ring_net());
+    assert_eq!(rt; net.places.as_slice()[0].marking, 1);
+    assert_eq!(rt; net.places.as_slice()[1].marking, 0);
+    assert_eq!(rt; net.arcs.as_slice()[3].source.bytes(), b"u".as_slice());
+    assert_eq!(rt; net.arcs.as_slice()[3].target.bytes(), b"p0".as_slice());
+    assert_eq!(rt; net.arcs.as_slice()[3].weight, 1);
     Ok(())
 }
 
 #[test]
-fn a_property_is_read_and_written_back(rt: HostRuntime) -> Result<(), Fail> {
+fn a_property_is_read(rt: HostRuntime) -> Result<(), Fail> {
     let property = read_property(rt.alloc(), ring_property())?;
     assert_eq!(rt; property.id.bytes(), b"P".as_slice());
-    assert_eq!(rt;
-        write_property(rt.alloc(), &property)?.as_slice(),
-        ring_property()
-    );
+    assert!(rt; matches!(&property.left, Count::Tokens(places) if places.len() == 2));
+    assert!(rt; matches!(&property.right, Count::Number(1)));
     Ok(())
 }
 
 #[test]
-fn a_certificate_is_read_and_written_back(rt: HostRuntime) -> Result<(), Fail> {
+fn a_certificate_is_read(rt: HostRuntime) -> Result<(), Fail> {
     let certificate = read_certificate(rt.alloc(), ring_certificate())?;
     assert_eq!(rt; certificate.flows.len(), 1);
+    assert_eq!(rt; certificate.flows.as_slice()[0].weights.len(), 2);
     assert_eq!(rt; certificate.close.len(), 2);
-    assert_eq!(rt;
-        write_certificate(rt.alloc(), &certificate)?.as_slice(),
-        ring_certificate()
+    assert!(rt;
+        matches!(
+            &certificate.close.as_slice()[0],
+            Multiplier::Hypothesis {
+                value: 1,
+                number: 1
+            }
+        )
     );
     Ok(())
 }
 
 #[test]
-fn markings_and_inscriptions_are_written(rt: HostRuntime) -> Result<(), Fail> {
-    let net = inscribed_net(rt.alloc())?;
-    assert_eq!(rt; write_net(rt.alloc(), &net)?.as_slice(), inscribed_text());
-    let read = read_net(rt.alloc(), inscribed_text())?;
-    assert_eq!(rt; write_net(rt.alloc(), &read)?.as_slice(), inscribed_text());
+fn markings_and_inscriptions_are_read(rt: HostRuntime) -> Result<(), Fail> {
+    let net = read_net(rt.alloc(), inscribed_text())?;
+    assert_eq!(rt; net.places.as_slice()[0].marking, 9_223_372_036_854_775_807);
+    assert!(rt; net.arcs.as_slice().iter().any(|arc| arc.weight > 1));
     Ok(())
 }
 
@@ -108,7 +85,8 @@ fn markings_and_inscriptions_are_written(rt: HostRuntime) -> Result<(), Fail> {
 fn a_net_without_nodes_has_an_empty_page(rt: HostRuntime) -> Result<(), Fail> {
     let net = read_net(rt.alloc(), empty_text())?;
     assert!(rt; net.places.is_empty());
-    assert_eq!(rt; write_net(rt.alloc(), &net)?.as_slice(), empty_text());
+    assert!(rt; net.transitions.is_empty());
+    assert!(rt; net.arcs.is_empty());
     Ok(())
 }
 

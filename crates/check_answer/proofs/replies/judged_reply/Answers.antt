@@ -13,10 +13,11 @@ returns-clause-judged g c =
       property = property;
       certificate = certificate;
       net_file = c.in_ok-net.ensures ∙ c.net.ensures;
-      formula_file = c.in_ok-property.ensures ∙ c.formula.ensures;
-      certificate_file = c.in_ok-certificate.ensures.read ∙ c.certificate.ensures;
-      plain = c.in_ok-rows.ensures.plain;
-      named = c.in_ok-certificate.ensures.named;
-      outcome_is = c.outcome_of.ensures.outcome ∙ ap outcome_of c.in_ok-judged.ensures;
-      text_is = c.in_ok-text.ensures ∙ ap (report net property certificate) c.in_ok-judged.ensures;
+      formula_file = c.in_ok-property.ensures.read ∙ c.formula.ensures;
+      certificate_file = c.in_ok-certificate.ensures ∙ c.certificate.ensures;
+      plain_net = c.in_ok-rows.ensures.plain;
+      plain_property = c.in_ok-property.ensures.plain;
+      plain_certificate = c.in_ok-judged.ensures.plain;
+      outcome_is = c.outcome_of.ensures.outcome ∙ ap outcome_of c.in_ok-judged.ensures.judged;
+      text_is = c.in_ok-text.ensures ∙ ap (report net property certificate) c.in_ok-judged.ensures.judged;
     }

@@ -1,23 +1,17 @@
-use Rattle.std.proofs.Common.{◌<◌, length, rules, sym}
-use Rattle.plain_model.specs.declared.verdicts.Check.TheVariants as check
-use Rattle.plain_judge.specs.Judging.{judged_rows, row_checks}
-use Rattle.plain_judge.proofs.Order.{rows_decided}
+use Rattle.std.proofs.Common.{◌<◌, ◌∙◌, length, refl, rules, arith, sym}
+use Rattle.pt_net.specs.Systems.{instance_at}
+use Rattle.plain_judge.specs.Judging.{instance_check}
+use Rattle.plain_judge.proofs.FirstFailing.{all_shown, first_decides}
 use Rattle.plain_judge.proofs.flows.judge_steps.Goals as goal
 
-pub returns-in-False : goal.returns-in-False
-returns-in-False c =
-    let within : c.loop-transition.transition < length c.args.system.now.instances = search rules in
-    sym (rows_decided c.args.flow c.loop-transition.transition c.args.coefficients.now c.args.system.now check.False c.cells-taken.result.now c.cells-put.result.now
-    (judged_rows c.args.flow 0 (row_checks c.args.coefficients.now c.args.system.now.instances)) within c.in-False.ensures c.cells-taken.ensures.cells c.cells-put.ensures.cells c.loop-transition.invariant)
+pub returns-then-first-instances-clause-judged : goal.returns-then-first-instances-clause-judged
+returns-then-first-instances-clause-judged c =
+    sym (all_shown c.args.flow c.args.coefficients.now c.args.system.now c.in-Ok.first c.in-Ok.ensures.first (omega (arith, c.if-first-instances.true, c.instances.ensures)))
 
-pub returns-in-Wide : goal.returns-in-Wide
-returns-in-Wide c =
-    let within : c.loop-transition.transition < length c.args.system.now.instances = search rules in
-    sym (rows_decided c.args.flow c.loop-transition.transition c.args.coefficients.now c.args.system.now check.Wide c.cells-taken.result.now c.cells-put.result.now
-    (judged_rows c.args.flow 0 (row_checks c.args.coefficients.now c.args.system.now.instances)) within c.in-Wide.ensures c.cells-taken.ensures.cells c.cells-put.ensures.cells c.loop-transition.invariant)
-
-pub loop-transition-preserved : goal.loop-transition-preserved
-loop-transition-preserved c =
-    let within : c.loop-transition.transition < length c.args.system.now.instances = search rules in
-    rows_decided c.args.flow c.loop-transition.transition c.args.coefficients.now c.args.system.now check.True c.cells-taken.result.now c.cells-put.result.now
-    (judged_rows c.args.flow 0 (row_checks c.args.coefficients.now c.args.system.now.instances)) within c.in-True.ensures c.cells-taken.ensures.cells c.cells-put.ensures.cells c.loop-transition.invariant
+pub returns-clause-judged : goal.returns-clause-judged
+returns-clause-judged c =
+    let first = c.in-Ok.ensures.first in
+    let most = first.within in
+    let within : c.in-Ok.first < length c.args.system.now.instances = search rules in
+    c.judge_step.ensures
+    ∙ first_decides c.args.flow c.args.coefficients.now c.args.system.now c.in-Ok.first (instance_check c.args.coefficients.now (instance_at c.args.system.now c.in-Ok.first)) first within refl

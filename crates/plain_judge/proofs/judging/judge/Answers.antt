@@ -3,4 +3,4 @@ use Rattle.plain_judge.proofs.Order.{distinct_places}
 use Rattle.plain_judge.proofs.judging.judge.Goals as goal
 
 pub judge_all-requires-clause-distinct : goal.judge_all-requires-clause-distinct
-judge_all-requires-clause-distinct c = distinct_places c.args.net.now c.places-ids.result.now c.requires.plain (c.places-ids.ensures ∙ c.requires.layout.places)
+judge_all-requires-clause-distinct c = distinct_places c.args.net.now c.args.rows.now.places c.requires.plain c.requires.places

@@ -5,7 +5,7 @@ use Rattle.plain_text.proofs.certificate_writer.put_certificate.Goals as goal
 
 pub returns : goal.returns
 returns c =
-    let start = c.args.sink.now in
+    let start = c.args.comparison.now in
     let value = c.args.certificate.now in
     let head = head_lines value.property in
     let flows = flat_map flow_line value.flows in

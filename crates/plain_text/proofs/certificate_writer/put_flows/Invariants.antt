@@ -3,4 +3,4 @@ use Rattle.plain_text.specs.Certificates.{flow_line}
 use Rattle.plain_text.proofs.certificate_writer.put_flows.Given as goal
 
 abbrev pub invariant-loop-flow : goal.invariant-loop-flow
-invariant-loop-flow l = l.sink ≡ l.fn.sink ++ flat_map flow_line (take l.flow-index l.flows)
+invariant-loop-flow l = l.comparison ≡ l.fn.comparison ++ flat_map flow_line (take l.flow-index l.flows)

@@ -3,4 +3,4 @@ use Rattle.plain_text.specs.Certificates.{multiplier_word}
 use Rattle.plain_text.proofs.certificate_writer.put_multipliers.Given as goal
 
 abbrev pub invariant-loop-multiplier : goal.invariant-loop-multiplier
-invariant-loop-multiplier l = l.sink ≡ l.fn.sink ++ flat_map multiplier_word (take l.multiplier-index l.multipliers)
+invariant-loop-multiplier l = l.comparison ≡ l.fn.comparison ++ flat_map multiplier_word (take l.multiplier-index l.multipliers)

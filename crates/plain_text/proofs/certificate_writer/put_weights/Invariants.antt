@@ -3,4 +3,4 @@ use Rattle.plain_text.specs.Certificates.{weight_word}
 use Rattle.plain_text.proofs.certificate_writer.put_weights.Given as goal
 
 abbrev pub invariant-loop-weight : goal.invariant-loop-weight
-invariant-loop-weight l = l.sink ≡ l.fn.sink ++ flat_map weight_word (take l.weight-index l.weights)
+invariant-loop-weight l = l.comparison ≡ l.fn.comparison ++ flat_map weight_word (take l.weight-index l.weights)

@@ -3,4 +3,4 @@ use Rattle.plain_text.specs.NetParts.{arc_text}
 use Rattle.plain_text.proofs.net_writer.put_arcs.Given as goal
 
 abbrev pub invariant-loop-arc : goal.invariant-loop-arc
-invariant-loop-arc l = l.sink ≡ l.fn.sink ++ flat_map arc_text (take l.arc-index l.arcs)
+invariant-loop-arc l = l.comparison ≡ l.fn.comparison ++ flat_map arc_text (take l.arc-index l.arcs)

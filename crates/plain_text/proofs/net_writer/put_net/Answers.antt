@@ -8,4 +8,4 @@ pub returns : goal.returns
 unfolding first_line
 returns c =
     three _ _ _ _ c.in_ok-put.ensures c.in_ok-put_net_element.ensures c.in_ok-put-2.ensures
-    ∙ ap (λ text. c.args.sink.now ++ text) (sym (net_text-parts c.args.net.now))
+    ∙ ap (λ text. c.args.comparison.now ++ text) (sym (net_text-parts c.args.net.now))

@@ -3,4 +3,4 @@ use Rattle.plain_text.specs.NetParts.{transition_text}
 use Rattle.plain_text.proofs.net_writer.put_transitions.Given as goal
 
 abbrev pub invariant-loop-transition : goal.invariant-loop-transition
-invariant-loop-transition l = l.sink ≡ l.fn.sink ++ flat_map transition_text (take l.transition-index l.transitions)
+invariant-loop-transition l = l.comparison ≡ l.fn.comparison ++ flat_map transition_text (take l.transition-index l.transitions)

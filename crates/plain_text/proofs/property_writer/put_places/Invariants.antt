@@ -3,4 +3,4 @@ use Rattle.plain_text.specs.PropertyParts.{listed_place}
 use Rattle.plain_text.proofs.property_writer.put_places.Given as goal
 
 abbrev pub invariant-loop-id : goal.invariant-loop-id
-invariant-loop-id l = l.sink ≡ l.fn.sink ++ flat_map listed_place (take l.id-index l.ids)
+invariant-loop-id l = l.comparison ≡ l.fn.comparison ++ flat_map listed_place (take l.id-index l.ids)

@@ -9,7 +9,7 @@ use Rattle.plain_text.proofs.property_writer.put_property.Goals as goal
 pub returns : goal.returns
 unfolding first_line
 returns c =
-    let start = c.args.sink.now in
+    let start = c.args.comparison.now in
     let value = c.args.property.now in
     let to_id = after start _ _ (leaf_text _ value.id) c.in_ok-put.ensures c.in_ok-put_leaf.ensures (ap (leaf_text _) c.bytes.ensures) in
     let to_formula = after start _ _ (formula_text value.left value.right) to_id c.in_ok-put_formula.ensures refl in

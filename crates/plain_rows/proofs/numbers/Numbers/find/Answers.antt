@@ -1,0 +1,12 @@
+use Rattle.std.proofs.Common.{sym, ◌∙◌}
+use Rattle.std.specs.Str.{bytes_eq}
+use Rattle.name_tables.proofs.Places.{position-map}
+use Rattle.plain_rows.proofs.numbers.Numbers.find.Goals as goal
+
+pub returns-in-Some : goal.returns-in-Some
+returns-in-Some c =
+    rw (← c.self.view_is) (c.in-Some.ensures.index ∙ sym (position-map (λ name. name.now) (bytes_eq c.args.name.now) c.self.inside.set.keys))
+
+pub returns-in-None : goal.returns-in-None
+returns-in-None c =
+    rw (← c.self.view_is) (c.in-None.ensures.index ∙ sym (position-map (λ name. name.now) (bytes_eq c.args.name.now) c.self.inside.set.keys))
