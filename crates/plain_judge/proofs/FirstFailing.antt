@@ -70,7 +70,7 @@ places_more names weights i weight incidences here ys system place old new disti
     cases (inl earlier) = before q t within earlier listed (omega (arith, below, lower))
     cases (inr same) = now same
 
-zero_term : (total : Total) (is_taken : Bool) (count : ℕ) → with_term total (signed is_taken (pos 0 *ℤ pos count)) ≡ total
+pub zero_term : (total : Total) (is_taken : Bool) (count : ℕ) → with_term total (signed is_taken (pos 0 *ℤ pos count)) ≡ total
 zero_term total is_taken count = ap (with_term total) (nothing is_taken) ∙ same_total (with_term total (pos 0)) total (omega (arith, ints)) (omega arith)
   where
     nothing : (b : Bool) → signed b (pos 0 *ℤ pos count) ≡ pos 0
@@ -241,7 +241,7 @@ AreCleared names weights count coefficients =
     (place : ℕ) → place < length names
     → get_or coefficients place (pos 0) ≡ cond (is_weighed (take count weights) (get_or names place [])) (pos 0) (weight_on weights (get_or names place []))
 
-same_or_other : (a b : ℕ) → (a ≡ b) ⊎ (a ≢ b)
+pub same_or_other : (a b : ℕ) → (a ≡ b) ⊎ (a ≢ b)
 same_or_other a b = grind arith
 
 -- one more place is cleared

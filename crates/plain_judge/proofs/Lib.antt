@@ -8,3 +8,4 @@ mod Order
 pub mod Marks
 mod ByPlace
 mod FirstFailing
+mod Settled

@@ -1,5 +1,5 @@
 -- What the first summands of a `close` line have added up to.
-use Rattle.std.proofs.Common.{◌≡◌, ℕ, zero, suc, ◌+◌, ◌^◌, ◌<◌, ◌≤◌, Bool, true, false, cond, ◌||◌, ◌&&◌, List, [], ◌∷◌, ◌++◌, map, length, get_or, take, ℤ, pos, ◌*ℤ◌, refl, sym, ◌∙◌, ap, subst, arith}
+use Rattle.std.proofs.Common.{◌≡◌, ℕ, zero, suc, ◌+◌, ◌^◌, ◌<◌, ◌≤◌, Bool, true, false, cond, ◌||◌, ◌&&◌, inl, inr, List, [], ◌∷◌, ◌++◌, map, length, get_or, take, ℤ, pos, ◌*ℤ◌, refl, sym, ◌∙◌, ap, subst, arith}
 use Rattle.std.specs.Prelude.{int_le, int_lt}
 use Rattle.std.specs.List.{list_all, list_any}
 use Rattle.std.proofs.lemmas.List.Folds.{list_any-append}
@@ -19,7 +19,7 @@ use Rattle.plain_model.specs.Obligations.{Part, parts, residual_coefficient, res
 use Rattle.plain_model.specs.Sums.{sum_of, is_wide}
 use Rattle.plain_model.specs.Plain.{place_ids}
 use Rattle.plain_judge.specs.Residuals.{AddsPart, FitPart, IsPartWide}
-use Rattle.plain_judge.specs.Closing.{AreResiduals, IsConstantInRange, residual_check}
+use Rattle.plain_judge.specs.Closing.{AreResiduals, IsConstantInRange, IsSlackWide, residual_check}
 
 -- the summand of a multiplier
 abbrev pub part_of : PlainNet → Property → Certificate → Multiplier → Part
@@ -254,3 +254,13 @@ judged_by_residual net property certificate names sums constant places long resi
     ap (λ b. cond (b && int_lt constant (pos 0)) check.True check.False) signs
     ∙ ap (λ z. cond (list_all (λ (place : Place). int_le (sum_of (residual_coefficient (parts net property certificate) place.id)) (pos 0)) net.places && int_lt z (pos 0)) check.True check.False) value
     ∙ sym (ap (λ b. cond b check.Wide (cond (is_refuted net (parts net property certificate)) check.True check.False)) none)
+
+-- a multiple that is out of range makes the obligation so
+pub wide_multiple : (net : PlainNet) (property : Property) (certificate : Certificate) (names : List (List ℕ)) (i : ℕ) (m : Multiplier) (sums : List Total)
+    → i < length certificate.close → get_or certificate.close i m ≡ m → names ≡ place_ids net
+    → AreResiduals names (parts_of net property certificate (take i certificate.close)) sums
+    → IsSlackWide names (multiplier_of m) (slack_of net property certificate.flows m) sums
+    → list_any is_wide (close_sums net (parts net property certificate)) ≡ true
+wide_multiple net property certificate names i m sums within item places before (inl part) =
+    wide_coefficient net property certificate names i m sums (map (slack_of net property certificate.flows m).coefficient names) within item places before refl part
+wide_multiple net property certificate names i m sums within item places before (inr constant) = wide_slack net property certificate i m within item constant

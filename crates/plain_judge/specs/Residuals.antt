@@ -1,6 +1,6 @@
 -- The residual of a `close` line.
-use Rattle.std.specs.Prelude.{◌≡◌, ℕ, ◌^◌, ◌<◌, ◌≤◌, List, map, length, ℤ, pos, ◌*ℤ◌, slice_index_or}
-use Rattle.wide_sums.specs.Total.{Total, with_term, zero_total}
+use Rattle.std.specs.Prelude.{◌≡◌, ℕ, ◌^◌, ◌<◌, ◌≤◌, List, map, length, ◌⊎◌, ℤ, pos, ◌*ℤ◌, slice_index_or}
+use Rattle.wide_sums.specs.Total.{Total, total_of, with_term, zero_total}
 use Rattle.plain_model.specs.declared.nets.Place.{Place}
 
 -- the initial counts of the places
@@ -25,3 +25,11 @@ FitPart multiplier coefficients sums =
 abbrev pub IsPartWide : ℤ → List ℤ → List Total → Type 0
 IsPartWide multiplier coefficients sums =
     (place : ℕ) × (place < length coefficients) × (2 ^ 127 ≤ (sum_with_part multiplier coefficients sums place).size)
+
+-- the sums of the first places are in range
+abbrev pub AreInRange : ℕ → List Total → Type 0
+AreInRange count sums = (place : ℕ) → place < count → (slice_index_or sums place zero_total).size < 2 ^ 127
+
+-- the sum of some place is out of range with that term, or the total of the constant's terms is
+abbrev pub IsSettledWide : ℤ → List ℤ → List Total → List ℤ → Type 0
+IsSettledWide multiplier coefficients sums terms = IsPartWide multiplier coefficients sums ⊎ (2 ^ 127 ≤ (total_of terms).size)

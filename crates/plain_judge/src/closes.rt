@@ -1,90 +1,126 @@
 //! The obligation of a `close` line.
-ghost use Rattle.std.specs.Prelude.{◌≡◌, ◌^◌, ◌≤◌, ◌<◌, length, map, replicate, IfOk, OnOk, Err, true, false};
-ghost use Rattle.plain_judge.specs.Closing.{AreResiduals, IsConstantInRange, residual_check, sums_check};
-ghost use Rattle.plain_model.specs.Forms.{flow_slack, flow_slack_of, multiplier_of, slack_of};
+ghost use Rattle.std.specs.Prelude.{◌≡◌, length, map, pos, replicate, IfOk, OnOk, Err, true};
+ghost use Rattle.plain_judge.specs.Closing.{AddsSlack, AreResiduals, IsConstantInRange, IsSlackWide, residual_check, sums_check};
+ghost use Rattle.plain_judge.specs.Residuals.{AreInRange};
+ghost use Rattle.plain_model.specs.Forms.{flow_slack, flow_slack_of, hypothesis_slack, multiplier_of, slack_of};
 ghost use Rattle.plain_model.specs.Obligations.{close_check, close_sums, is_signed_well, parts, residual_constant};
 ghost use Rattle.plain_model.specs.Plain.{AreDistinct, flow_names, place_ids};
 ghost use Rattle.plain_model.specs.Sums.{sum_of};
 ghost use Rattle.std.specs.List.{list_all, list_any};
 ghost use Rattle.plain_model.specs.Sums.{is_wide};
-ghost use Rattle.wide_sums.specs.Total.{total_of, zero_total};
+ghost use Rattle.wide_sums.specs.Total.{zero_total};
 
-use crate::constants::{constant_of_flow, constant_of_hypothesis};
-use crate::faults::{JudgeFault, NotYet};
+use crate::constants::constant_of_hypothesis;
+use crate::faults::{JudgeFault, NotYet, SumFault};
 use crate::residuals::{add_multiple, add_part, empty_coefficients, empty_sums, is_none_positive};
-use crate::spreads::{spread_hypothesis, spread_weights};
+use crate::settling::settle_weights;
+use crate::spreads::{spread_hypothesis, spread_on_zeros};
 use name_tables::Name;
 use plain_model::{Certificate, Check, Flow, Multiplier, PlainNet, Property};
 use plain_rows::Numbers;
 use std::alloc::Global;
 use wide_sums::{Sum, Wide};
 
-/// Why sums have no value.
-#[derive(Clone, Copy, Debug, PartialEq, Eq)]
-pub enum SumFault {
-    /// The certificate or the property isn't of the first grammar.
-    NotYet,
-    /// A sum is out of range.
-    Wide,
-}
-
-impl From<NotYet> for SumFault {
-    fn from(_refused: NotYet) -> SumFault {
-        SumFault::NotYet
-    }
-}
-
-/// Writes the coefficients of a flow, and gives the constant of its slack form.
-pub fn spread_flow(
+/// Adds a multiple of a flow's slack form to the sums, and gives the form's constant. The
+/// coefficients are 0 before and afterwards.
+fn add_flow(
     net: &PlainNet,
     ids: &Numbers<'_>,
     flow: &Flow,
+    multiplier: i64,
     coefficients: &mut [i64],
+    sums: &mut [Sum],
 ) -> Result<i128, SumFault>
     requires places { ids.now ≡ place_ids net.now }
     requires distinct { AreDistinct ids.now }
-    requires long { length coefficients.old ≡ length ids.now }
-    ensures spread { OnOk result (coefficients.new ≡ map (flow_slack net.now flow.now).coefficient ids.now) }
-    ensures value { IfOk result (λ value. value ≡ sum_of (flow_slack net.now flow.now).constant) }
-    ensures fits { OnOk result ((total_of (flow_slack net.now flow.now).constant).size < 2 ^ 127) }
-    ensures wide { result ≡ Err SumFault.Wide → 2 ^ 127 ≤ (total_of (flow_slack net.now flow.now).constant).size }
+    requires zeros { coefficients.old ≡ replicate (length ids.now) (pos 0) }
+    requires sums { length sums.old ≡ length ids.now }
+    requires in_range { AreInRange (length ids.now) sums.old }
+    ensures zeros { OnOk result (coefficients.new ≡ replicate (length ids.now) (pos 0)) }
+    ensures adds { IfOk result (AddsSlack ids.now multiplier (flow_slack net.now flow.now) sums.old sums.new) }
+    ensures wide { result ≡ Err SumFault.Wide → IsSlackWide ids.now multiplier (flow_slack net.now flow.now) sums.old }
 {
-    match spread_weights(ids, flow.weights.as_slice(), coefficients) {
+    let weights = flow.weights.as_slice();
+    match spread_on_zeros(ids, weights, coefficients) {
         Ok(()) => {}
         Err(NotYet) => return Err(SumFault::NotYet),
     }
-    match constant_of_flow(coefficients, net.places.as_slice()) {
+    match settle_weights(
+        ids,
+        weights,
+        net.places.as_slice(),
+        multiplier,
+        coefficients,
+        sums,
+    ) {
         Ok(constant) => Ok(constant),
-        Err(Wide) => Err(SumFault::Wide),
+        Err(fault) => Err(fault),
     }
 }
 
-/// Writes the coefficients of the flow with this name, and gives the constant of its slack form.
-fn spread_named(
+/// Adds a multiple of the slack form of the flow with this name.
+fn add_named(
     net: &PlainNet,
     ids: &Numbers<'_>,
     flows: &[Flow],
     names: &Numbers<'_>,
     name: &Name,
+    multiplier: i64,
     coefficients: &mut [i64],
+    sums: &mut [Sum],
 ) -> Result<i128, SumFault>
     requires places { ids.now ≡ place_ids net.now }
     requires distinct { AreDistinct ids.now }
-    requires long { length coefficients.old ≡ length ids.now }
+    requires zeros { coefficients.old ≡ replicate (length ids.now) (pos 0) }
+    requires sums { length sums.old ≡ length ids.now }
+    requires in_range { AreInRange (length ids.now) sums.old }
     requires names { names.now ≡ map (λ flow. flow.name) flows.now }
-    ensures spread { OnOk result (coefficients.new ≡ map (flow_slack_of net.now flows.now name.now).coefficient ids.now) }
-    ensures value { IfOk result (λ value. value ≡ sum_of (flow_slack_of net.now flows.now name.now).constant) }
-    ensures fits { OnOk result ((total_of (flow_slack_of net.now flows.now name.now).constant).size < 2 ^ 127) }
-    ensures wide { result ≡ Err SumFault.Wide → 2 ^ 127 ≤ (total_of (flow_slack_of net.now flows.now name.now).constant).size }
+    ensures zeros { OnOk result (coefficients.new ≡ replicate (length ids.now) (pos 0)) }
+    ensures adds { IfOk result (AddsSlack ids.now multiplier (flow_slack_of net.now flows.now name.now) sums.old sums.new) }
+    ensures wide { result ≡ Err SumFault.Wide → IsSlackWide ids.now multiplier (flow_slack_of net.now flows.now name.now) sums.old }
 {
     match names.find(name.bytes()) {
-        Some(number) => spread_flow(net, ids, &flows[number as usize], coefficients),
+        Some(number) => add_flow(
+            net,
+            ids,
+            &flows[number as usize],
+            multiplier,
+            coefficients,
+            sums,
+        ),
         None => Err(SumFault::NotYet),
     }
 }
 
-/// Writes the coefficients of the slack form that a summand multiplies, and gives its constant.
-fn spread_slack(
+/// Adds a multiple of the slack form of the negated invariant.
+fn add_hypothesis(
+    ids: &Numbers<'_>,
+    property: &Property,
+    multiplier: i64,
+    coefficients: &mut [i64],
+    sums: &mut [Sum],
+) -> Result<i128, SumFault>
+    requires distinct { AreDistinct ids.now }
+    requires zeros { coefficients.old ≡ replicate (length ids.now) (pos 0) }
+    requires sums { length sums.old ≡ length ids.now }
+    ensures zeros { OnOk result (coefficients.new ≡ replicate (length ids.now) (pos 0)) }
+    ensures adds { IfOk result (AddsSlack ids.now multiplier (hypothesis_slack property.now) sums.old sums.new) }
+    ensures wide { result ≡ Err SumFault.Wide → IsSlackWide ids.now multiplier (hypothesis_slack property.now) sums.old }
+{
+    match spread_hypothesis(ids, property, coefficients) {
+        Ok(()) => {}
+        Err(NotYet) => return Err(SumFault::NotYet),
+    }
+    match add_part(sums, multiplier, coefficients) {
+        Ok(()) => {}
+        Err(Wide) => return Err(SumFault::Wide),
+    }
+    coefficients.fill(0);
+    Ok(constant_of_hypothesis(property))
+}
+
+/// Adds a multiple of the slack form that a summand multiplies, and gives the form's constant.
+fn add_slack(
     net: &PlainNet,
     ids: &Numbers<'_>,
     property: &Property,
@@ -92,29 +128,36 @@ fn spread_slack(
     names: &Numbers<'_>,
     multiplier: &Multiplier,
     coefficients: &mut [i64],
+    sums: &mut [Sum],
 ) -> Result<i128, SumFault>
     requires places { ids.now ≡ place_ids net.now }
     requires distinct { AreDistinct ids.now }
-    requires long { length coefficients.old ≡ length ids.now }
+    requires zeros { coefficients.old ≡ replicate (length ids.now) (pos 0) }
+    requires sums { length sums.old ≡ length ids.now }
+    requires in_range { AreInRange (length ids.now) sums.old }
     requires names { names.now ≡ map (λ flow. flow.name) flows.now }
-    ensures spread { OnOk result (coefficients.new ≡ map (slack_of net.now property.now flows.now multiplier.now).coefficient ids.now) }
-    ensures value { IfOk result (λ value. value ≡ sum_of (slack_of net.now property.now flows.now multiplier.now).constant) }
-    ensures fits { OnOk result ((total_of (slack_of net.now property.now flows.now multiplier.now).constant).size < 2 ^ 127) }
-    ensures wide { result ≡ Err SumFault.Wide → 2 ^ 127 ≤ (total_of (slack_of net.now property.now flows.now multiplier.now).constant).size }
+    ensures zeros { OnOk result (coefficients.new ≡ replicate (length ids.now) (pos 0)) }
+    ensures adds { IfOk result (AddsSlack ids.now (multiplier_of multiplier.now) (slack_of net.now property.now flows.now multiplier.now) sums.old sums.new) }
+    ensures wide { result ≡ Err SumFault.Wide → IsSlackWide ids.now (multiplier_of multiplier.now) (slack_of net.now property.now flows.now multiplier.now) sums.old }
 {
     match multiplier {
-        Multiplier::Fact(factor) => spread_named(
+        Multiplier::Fact(factor) => add_named(
             net,
             ids,
             flows,
             names,
             &factor.fact,
+            factor.value,
             coefficients,
+            sums,
         ),
-        Multiplier::Hypothesis { .. } => match spread_hypothesis(ids, property, coefficients) {
-            Ok(()) => Ok(constant_of_hypothesis(property)),
-            Err(NotYet) => Err(SumFault::NotYet),
-        },
+        Multiplier::Hypothesis { value, .. } => add_hypothesis(
+            ids,
+            property,
+            *value,
+            coefficients,
+            sums,
+        ),
     }
 }
 
@@ -150,7 +193,7 @@ fn add_up(
 ) -> Result<i128, SumFault>
     requires places { ids.now ≡ place_ids net.now }
     requires distinct { AreDistinct ids.now }
-    requires long { length coefficients.old ≡ length ids.now }
+    requires zeros { coefficients.old ≡ replicate (length ids.now) (pos 0) }
     requires names { names.now ≡ flow_names certificate.now }
     requires empty { sums.old ≡ replicate (length ids.now) zero_total }
     ensures sums { OnOk result (AreResiduals ids.now (parts net.now property.now certificate.now) sums.new) }
@@ -160,7 +203,7 @@ fn add_up(
 {
     let mut total = Sum::zero();
     for multiplier in certificate.close.as_slice() {
-        let constant = match spread_slack(
+        let constant = match add_slack(
             net,
             ids,
             property,
@@ -168,16 +211,12 @@ fn add_up(
             names,
             multiplier,
             coefficients,
+            sums,
         ) {
             Ok(constant) => constant,
             Err(fault) => return Err(fault),
         };
-        let value = value_of(multiplier);
-        match add_part(sums, value, coefficients) {
-            Ok(()) => {}
-            Err(Wide) => return Err(SumFault::Wide),
-        }
-        match add_multiple(&mut total, value, constant) {
+        match add_multiple(&mut total, value_of(multiplier), constant) {
             Ok(()) => {}
             Err(Wide) => return Err(SumFault::Wide),
         }
@@ -215,7 +254,7 @@ fn check_sums(
 ) -> Result<Check, JudgeFault>
     requires places { ids.now ≡ place_ids net.now }
     requires distinct { AreDistinct ids.now }
-    requires long { length coefficients.old ≡ length ids.now }
+    requires zeros { coefficients.old ≡ replicate (length ids.now) (pos 0) }
     requires names { names.now ≡ flow_names certificate.now }
     requires empty { sums.old ≡ replicate (length ids.now) zero_total }
     ensures { IfOk result (λ check. check ≡ sums_check net.now property.now certificate.now) }

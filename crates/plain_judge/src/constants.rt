@@ -1,30 +1,10 @@
-//! The constants of slack forms.
-ghost use Rattle.std.specs.Prelude.{◌≡◌, ◌^◌, ◌≤◌, ◌<◌, length, map, OnOk, OnErr, IfOk, neg_ℤ, unsigned_abs};
-ghost use Rattle.plain_judge.specs.Residuals.{markings};
+//! The constant of the negated invariant.
+ghost use Rattle.std.specs.Prelude.{◌≡◌, ◌^◌, ◌<◌, unsigned_abs};
 ghost use Rattle.plain_model.specs.Forms.{hypothesis_slack, numbers};
-ghost use Rattle.plain_model.specs.Sums.{products, sum_of};
+ghost use Rattle.plain_model.specs.Sums.{sum_of};
 ghost use Rattle.wide_sums.specs.Total.{total_of};
 
-use crate::steps::add_term;
-use plain_model::{Count, Place, Property};
-use wide_sums::{Sum, Wide};
-
-/// Minus the value of the coefficients at the initial marking.
-pub fn constant_of_flow(coefficients: &[i64], places: &[Place]) -> Result<i128, Wide>
-    requires { length coefficients.now ≡ length places.now }
-    ensures value { IfOk result (λ value. value ≡ sum_of (map neg_ℤ (products coefficients.now (markings places.now)))) }
-    ensures fits { OnOk result ((total_of (map neg_ℤ (products coefficients.now (markings places.now)))).size < 2 ^ 127) }
-    ensures wide { OnErr result (2 ^ 127 ≤ (total_of (map neg_ℤ (products coefficients.now (markings places.now)))).size) }
-{
-    let mut sum = Sum::zero();
-    for place in 0..places.len() {
-        match add_term(&mut sum, coefficients[place], places[place].marking, true) {
-            Ok(()) => {}
-            Err(Wide) => return Err(Wide),
-        }
-    }
-    Ok(sum.value())
-}
+use plain_model::{Count, Property};
 
 /// The number of a count, 0 for one that counts tokens.
 fn number_of(count: &Count) -> i128

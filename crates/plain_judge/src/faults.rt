@@ -27,3 +27,18 @@ impl From<Memory> for JudgeFault {
         JudgeFault::Memory
     }
 }
+
+/// Why sums have no value.
+#[derive(Clone, Copy, Debug, PartialEq, Eq)]
+pub enum SumFault {
+    /// The certificate or the property isn't of the first grammar.
+    NotYet,
+    /// A sum is out of range.
+    Wide,
+}
+
+impl From<NotYet> for SumFault {
+    fn from(_refused: NotYet) -> SumFault {
+        SumFault::NotYet
+    }
+}

@@ -14,6 +14,7 @@ mod judging;
 mod naming;
 mod residuals;
 mod searches;
+mod settling;
 mod spreads;
 mod steps;
 #[cfg(test)]

@@ -82,21 +82,6 @@ fn add_count(
     }
 }
 
-/// Writes the coefficients of the weights, in place of what stood there.
-pub fn spread_weights(
-    ids: &Numbers<'_>,
-    weights: &[Weight],
-    coefficients: &mut [i64],
-) -> Result<(), NotYet>
-    requires distinct { AreDistinct ids.now }
-    requires long { length coefficients.old ≡ length ids.now }
-    ensures { OnOk result (coefficients.new ≡ map (weight_on weights.now) ids.now) }
-{
-    coefficients.fill(0);
-    add_weights(ids, weights, coefficients)?;
-    Ok(())
-}
-
 /// Adds the weights to coefficients that all are 0.
 pub fn spread_on_zeros(
     ids: &Numbers<'_>,
@@ -112,7 +97,11 @@ pub fn spread_on_zeros(
 }
 
 /// Writes 0 at the places of the weights, so that all coefficients are 0 again.
-pub fn clear_weights(ids: &Numbers<'_>, weights: &[Weight], coefficients: &mut [i64]) -> Result<(), NotYet>
+pub fn clear_weights(
+    ids: &Numbers<'_>,
+    weights: &[Weight],
+    coefficients: &mut [i64],
+) -> Result<(), NotYet>
     requires distinct { AreDistinct ids.now }
     requires spread { coefficients.old ≡ map (weight_on weights.now) ids.now }
     ensures { OnOk result (coefficients.new ≡ replicate (length ids.now) (pos 0)) }
