@@ -8,7 +8,7 @@ use Rattle.std.proofs.lemmas.Str.{is_utf8-from_IsUtf8}
 use Rattle.name_tables.specs.Grammar.{number_of}
 use Rattle.name_tables.specs.Tables.{words_of_certificates}
 use Rattle.cert_lines.specs.Parts.{all_of, factor_of, id_of, index_of, instance_of, multiplier_of, place_of, weight_of}
-use Rattle.cert_lines.specs.Statements.{alone, bound_from, bound_said, cases_from, cases_said, clash_said, close_said, each_said, fact_from, flow_said, keyword_of, line_from, only, property_said, said, said_from, split_from, split_said, spoken, statement_of, step_from, step_said, trap_said, version_said}
+use Rattle.cert_lines.specs.Statements.{alone, bound_from, bound_said, cases_from, cases_said, clash_said, close_said, each_said, fact_from, flow_said, keyword_of, line_from, only, property_said, said, said_from, split_from, split_said, spoken, statement_of, step_from, step_said, trap_said, version_said, word_for}
 use Rattle.cert_lines.specs.Texts.{factor_text, multiplier_text, place_text, weight_text}
 use Rattle.cert_lines.specs.Words.{words_of}
 use Rattle.cert_lines.specs.Written.{WrittenLineIsRead, first_of, later_of, statement_text}
@@ -37,21 +37,6 @@ some_same : {A : Type 0} (x y : A) → Some x ≡ Some y → x ≡ y
 some_same x y e = cc
 
 -- the first words are found in their table
-abbrev word_for : Keyword → List ℕ
-word_for first.Bound = codes "bound"
-word_for first.Cases = codes "cases"
-word_for first.Certificate = codes "certificate"
-word_for first.Clash = codes "clash"
-word_for first.Close = codes "close"
-word_for first.Each = codes "each"
-word_for first.End = codes "end"
-word_for first.Flow = codes "flow"
-word_for first.Proof = codes "proof"
-word_for first.Property = codes "property"
-word_for first.Split = codes "split"
-word_for first.Step = codes "step"
-word_for first.Trap = codes "trap"
-
 in_table : (keyword : Keyword) → keyword_of (word_for keyword) ≡ Some keyword
 unfolding words_of_certificates
 in_table first.Bound = refl

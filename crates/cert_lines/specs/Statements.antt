@@ -33,6 +33,22 @@ keyword_at (Some place) = slice_get keywords place
 abbrev pub keyword_of : List ℕ → Option Keyword
 keyword_of word = keyword_at (number_in words_of_certificates word)
 
+-- and the other way round
+abbrev pub word_for : Keyword → List ℕ
+word_for first.Bound = codes "bound"
+word_for first.Cases = codes "cases"
+word_for first.Certificate = codes "certificate"
+word_for first.Clash = codes "clash"
+word_for first.Close = codes "close"
+word_for first.Each = codes "each"
+word_for first.End = codes "end"
+word_for first.Flow = codes "flow"
+word_for first.Proof = codes "proof"
+word_for first.Property = codes "property"
+word_for first.Split = codes "split"
+word_for first.Step = codes "step"
+word_for first.Trap = codes "trap"
+
 -- no words, and exactly one word
 abbrev pub alone : Statement → List (List ℕ) → Option Statement
 alone statement [] = Some statement

@@ -1,6 +1,6 @@
 ghost use Rattle.std.specs.Prelude.{◌≡◌, [], ◌∷◌, IfOk, IfSome, IfNone};
 ghost use Rattle.std.specs.Str.{is_utf8};
-ghost use Rattle.cert_lines.specs.Statements.{IsNotOne, alone, bound_said, cases_said, clash_said, close_said, each_said, flow_said, keyword_of, line_from, line_of, only, property_said, said, split_said, statement_of, step_said, trap_said, version_said};
+ghost use Rattle.cert_lines.specs.Statements.{IsNotOne, alone, bound_said, cases_said, clash_said, close_said, each_said, flow_said, keyword_of, line_from, line_of, only, property_said, said, split_said, statement_of, step_said, trap_said, version_said, word_for};
 
 use crate::certificates::NodeForm;
 use crate::lists::read_list;
@@ -78,6 +78,29 @@ pub fn read_keyword(word: &[u8]) -> Option<Keyword>
     match cert_words().find(word) {
         Some(place) => Some(KEYWORDS[place as usize]),
         None => None,
+    }
+}
+
+/// The word that a line of this kind begins with.
+#[tactic(auto, unfolding(name_tables::specs::Tables::words_of_certificates))]
+pub fn first_word(keyword: Keyword) -> &'static [u8]
+    ensures { result.now ≡ word_for keyword }
+{
+    let words = cert_words();
+    match keyword {
+        Keyword::Bound => words.text(0),
+        Keyword::Cases => words.text(1),
+        Keyword::Certificate => words.text(2),
+        Keyword::Clash => words.text(3),
+        Keyword::Close => words.text(4),
+        Keyword::Each => words.text(5),
+        Keyword::End => words.text(6),
+        Keyword::Flow => words.text(7),
+        Keyword::Proof => words.text(8),
+        Keyword::Property => words.text(9),
+        Keyword::Split => words.text(10),
+        Keyword::Step => words.text(11),
+        Keyword::Trap => words.text(12),
     }
 }
 

@@ -63,5 +63,6 @@ pub fn read_list<T: Listed>(
             None => return Ok(None),
         }
     }
+    list.shrink_to_fit();
     Ok(Some(Items::from_vec(list)))
 }

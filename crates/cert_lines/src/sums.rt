@@ -107,7 +107,7 @@ fn are_few<T: Valued>(items: &[T]) -> bool
 fn is_past_by_name<T: Valued>(alloc: Global, items: &[T]) -> Result<bool, Memory>
     ensures { IfOk result (λ past. past ≡ are_past (map T.amount items.now)) }
 {
-    let mut sums = IndexMap::new(alloc);
+    let mut sums = IndexMap::with_capacity(alloc, items.len())?;
     for item in items {
         if !add_to(alloc, &mut sums, item)? {
             return Ok(true);

@@ -1,10 +1,13 @@
 ghost use Rattle.std.specs.Prelude.{◌≡◌, ◌++◌, ◌∷◌, [], ℕ, List, IfOk, OnOk, codes, decimal, flat_map};
 ghost use Rattle.std.specs.Fmt.{signed_decimal};
+ghost use Rattle.cert_lines.specs.Statements.{word_for};
 ghost use Rattle.cert_lines.specs.Texts.{all_spaced, certificate_text, claim_line, ended, fact_lines, factor_text, form_line, instance_text, multiplier_text, node_line, place_text, spaced, step_line, steps_of, weight_text};
 
 use crate::certificates::{
     Cert, Fact, FactKind, Factor, Multiplier, Node, NodeForm, PlaceRef, Step, Weight,
 };
+use crate::lines::first_word;
+use crate::statements::Keyword;
 use itoa::Buffer;
 use std::alloc::Global;
 use std::marker::Model;
@@ -18,9 +21,11 @@ pub fn write_cert(alloc: Global, cert: &Cert) -> Result<Vec<u8>, Memory>
     let mut text = Text::new(alloc);
     text.head(cert.property.bytes())?;
     text.facts(cert.facts.as_slice())?;
-    text.put(b"proof\n")?;
+    text.first(Keyword::Proof)?;
+    text.put(b"\n")?;
     text.nodes(cert.tree.as_slice())?;
-    text.put(b"end\n")?;
+    text.first(Keyword::End)?;
+    text.put(b"\n")?;
     Ok(text.into_bytes())
 }
 
@@ -171,11 +176,20 @@ impl Text {
         Ok(())
     }
 
+    /// Writes the first word of a line.
+    fn first(&mut self, keyword: Keyword) -> Result<(), Memory>
+        ensures { OnOk result (self.new ≡ self.old ++ word_for keyword) }
+    {
+        self.put(first_word(keyword))
+    }
+
     fn head(&mut self, property: &[u8]) -> Result<(), Memory>
         ensures { OnOk result (self.new ≡ self.old
             ++ (ended (codes "certificate" ++ spaced (codes "1")) ++ ended (codes "property" ++ spaced property.now))) }
     {
-        self.put(b"certificate 1\nproperty")?;
+        self.first(Keyword::Certificate)?;
+        self.put(b" 1\n")?;
+        self.first(Keyword::Property)?;
         self.spaced(property)?;
         self.put(b"\n")?;
         Ok(())
@@ -204,18 +218,18 @@ impl Text {
         ensures { OnOk result (self.new ≡ self.old ++ claim_line name.now kind.now) }
     {
         match kind {
-            FactKind::Flow(weights) => self.named(b"flow", name, weights.as_slice()),
-            FactKind::Trap(places) => self.named(b"trap", name, places.as_slice()),
+            FactKind::Flow(weights) => self.named(Keyword::Flow, name, weights.as_slice()),
+            FactKind::Trap(places) => self.named(Keyword::Trap, name, places.as_slice()),
             FactKind::Bound { limit, weights, .. } => {
                 self.bound(name, *limit, weights.as_slice())
             }
         }
     }
 
-    fn named<T: Spelled>(&mut self, first: &[u8], name: &[u8], values: &[T]) -> Result<(), Memory>
-        ensures { OnOk result (self.new ≡ self.old ++ ended (first.now ++ spaced name.now ++ all_spaced T.spelling values.now)) }
+    fn named<T: Spelled>(&mut self, first: Keyword, name: &[u8], values: &[T]) -> Result<(), Memory>
+        ensures { OnOk result (self.new ≡ self.old ++ ended (word_for first ++ spaced name.now ++ all_spaced T.spelling values.now)) }
     {
-        self.put(first)?;
+        self.first(first)?;
         self.spaced(name)?;
         self.list(values)?;
         self.put(b"\n")?;
@@ -226,7 +240,7 @@ impl Text {
         ensures { OnOk result (self.new ≡ self.old
             ++ ended (codes "bound" ++ spaced name.now ++ spaced (signed_decimal limit) ++ all_spaced weight_text weights.now)) }
     {
-        self.put(b"bound")?;
+        self.first(Keyword::Bound)?;
         self.spaced(name)?;
         self.spaced_signed(limit)?;
         self.list(weights)?;
@@ -246,7 +260,7 @@ impl Text {
     fn step(&mut self, step: &Step) -> Result<(), Memory>
         ensures { OnOk result (self.new ≡ self.old ++ step_line step.now) }
     {
-        self.put(b"step")?;
+        self.first(Keyword::Step)?;
         self.instance(step)?;
         self.spaced_signed(step.scale)?;
         self.spaced_signed(step.keep)?;
@@ -278,25 +292,25 @@ impl Text {
     {
         match form {
             NodeForm::Close(multipliers) => {
-                self.put(b"close")?;
+                self.first(Keyword::Close)?;
                 self.list(multipliers.as_slice())?;
             }
             NodeForm::Clash(place) => {
-                self.put(b"clash")?;
+                self.first(Keyword::Clash)?;
                 self.spaced_value(place)?;
             }
             NodeForm::Split { limit, weights } => {
-                self.put(b"split")?;
+                self.first(Keyword::Split)?;
                 self.spaced_signed(*limit)?;
                 self.list(weights.as_slice())?;
             }
             NodeForm::Cases { choice, branches } => {
-                self.put(b"cases")?;
+                self.first(Keyword::Cases)?;
                 self.marked(b" ", *choice)?;
                 self.marked(b" ", *branches)?;
             }
             NodeForm::Each { choice } => {
-                self.put(b"each")?;
+                self.first(Keyword::Each)?;
                 self.marked(b" ", *choice)?;
             }
         }

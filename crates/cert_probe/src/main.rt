@@ -11,8 +11,8 @@ use host_io::HostFiles;
 use name_tables::Name;
 use pnml_inputs::{MAX_BYTES, Role, read_input};
 use std::alloc::Global;
-use std::env;
 use std::process::ExitCode;
+use std::{env, mem};
 
 /// The certificate that the bytes spell, or their first fault.
 fn certificate(alloc: Global, bytes: &[u8]) -> Result<Cert, CertFault>
@@ -39,7 +39,11 @@ fn main(rt: HostRuntime) -> ExitCode {
         return ExitCode::from(3);
     }
     let printed = match certificate(rt.alloc(), bytes.as_slice()) {
-        Ok(_) => println!(rt; "certificate"),
+        Ok(cert) => {
+            // The process ends here, which frees it at once.
+            mem::forget(cert);
+            println!(rt; "certificate")
+        }
         Err(CertFault::Line { number }) => println!(rt; "line {number}"),
         Err(CertFault::Repeated { number }) => println!(rt; "repeated {number}"),
         Err(CertFault::Coefficient { number }) => println!(rt; "coefficient {number}"),
