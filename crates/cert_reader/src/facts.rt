@@ -107,7 +107,7 @@ impl Facts {
             binding: step.binding,
         })?;
         Ok(Facts {
-            list: list_with_step(list, step)?,
+            list: list_with_step(alloc, list, step)?,
             names,
             origins,
         })
@@ -129,18 +129,18 @@ fn is_bound_kind(kind: &FactKind) -> bool
 }
 
 /// The facts with one more step of the last one.
-fn list_with_step(facts: Vec<Fact>, step: Step) -> Result<Vec<Fact>, Memory>
+fn list_with_step(alloc: Global, facts: Vec<Fact>, step: Step) -> Result<Vec<Fact>, Memory>
     ensures { IfOk result (λ grown. grown.items ≡ with_step facts.items step) }
 {
     let mut list = facts;
     let Some(last) = list.pop() else {
         return Ok(list);
     };
-    list.push(fact_with_step(last, step)?)?;
+    list.push(fact_with_step(alloc, last, step)?)?;
     Ok(list)
 }
 
-fn fact_with_step(fact: Fact, step: Step) -> Result<Fact, Memory>
+fn fact_with_step(alloc: Global, fact: Fact, step: Step) -> Result<Fact, Memory>
     ensures { IfOk result (λ grown. grown ≡ stepped fact step) }
 {
     let Fact { line, name, kind } = fact;
@@ -148,23 +148,33 @@ fn fact_with_step(fact: Fact, step: Step) -> Result<Fact, Memory>
         FactKind::Bound {
             limit,
             weights,
-            mut steps,
-        } => {
-            steps.push(step)?;
-            Ok(Fact {
-                line,
-                name,
-                kind: FactKind::Bound {
-                    limit,
-                    weights,
-                    steps,
-                },
-            })
-        }
+            steps,
+        } => Ok(Fact {
+            line,
+            name,
+            kind: FactKind::Bound {
+                limit,
+                weights,
+                steps: one_more_step(alloc, steps, step)?,
+            },
+        }),
         other => Ok(Fact {
             line,
             name,
             kind: other,
         }),
     }
+}
+
+/// The steps with one more; the first gets room for itself alone, since most bounds have few.
+fn one_more_step(alloc: Global, steps: Items<Step>, step: Step) -> Result<Items<Step>, Memory>
+    ensures { IfOk result (λ grown. grown ≡ steps ++ step ∷ []) }
+{
+    let mut grown = if steps.is_empty() {
+        Items::from_vec(Vec::with_capacity(alloc, 1)?)
+    } else {
+        steps
+    };
+    grown.push(step)?;
+    Ok(grown)
 }
