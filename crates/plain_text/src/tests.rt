@@ -76,6 +76,7 @@ fn a_certificate_is_read(rt: HostRuntime) -> Result<(), Fail> {
 #[test]
 fn markings_and_inscriptions_are_read(rt: HostRuntime) -> Result<(), Fail> {
     let net = read_net(rt.alloc(), inscribed_text())?;
+    assert_eq!(rt; net.places.len(), 1);
     assert_eq!(rt; net.places.as_slice()[0].marking, 9_223_372_036_854_775_807);
     assert!(rt; net.arcs.as_slice().iter().any(|arc| arc.weight > 1));
     Ok(())
