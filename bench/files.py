@@ -17,6 +17,8 @@ import sys
 import tempfile
 import time
 
+from made_files import made
+
 MIB = 1 << 20
 LIMIT = 64 * MIB
 FIRST = b'<?xml version="1.0" encoding="UTF-8"?>\n'
@@ -94,23 +96,26 @@ def measured(words):
     return output, time.monotonic() - started, usage.ru_maxrss / 1024
 
 
-def show(label, program, size, texts):
+def counted(name, word):
+    """How many lines of the file begin with the word."""
+    with open(name, "rb") as file:
+        return sum(line.startswith(word) for line in file)
+
+
+def show(label, program, size, maker):
     """One line of the table."""
     with tempfile.TemporaryDirectory() as folder:
-        names = []
-        for name, text in zip(("net", "formula", "certificate"), texts):
-            names.append(os.path.join(folder, name))
-            with open(names[-1], "wb") as file:
-                file.write(text)
-        total = sum(len(text) for text in texts) / MIB
-        places, flows = texts[0].count(b"<place "), texts[2].count(b"\nflow ")
-        del texts
+        names = [os.path.join(folder, name) for name in ("net", "formula", "certificate")]
+        for number, name in enumerate(names):
+            made(lambda size: maker(size)[number], size, name)
+        total = sum(os.path.getsize(name) for name in names) / MIB
+        places, flows = counted(names[0], b"<place "), counted(names[2], b"flow ")
         _, reading, _ = measured(["cat"] + names)
         output, seconds, peak = measured([program, "check"] + names)
         if not output.startswith(b"holds\n"):
             print(f"{label} {size}: {output[:200]!r}")
             sys.exit(1)
-        print(f"{label:6s} {size:5d}  {total:6.1f}  {places:7d}  {flows:7d}  {seconds:7.2f}  {reading:7.2f}  {peak:8.0f}", flush=True)
+        print(f"{label:6s} {size // MIB:5d}  {total:6.1f}  {places:7d}  {flows:7d}  {seconds:7.2f}  {reading:7.2f}  {peak:8.0f}", flush=True)
 
 
 def ring_texts(size):
@@ -123,11 +128,10 @@ def ring_texts(size):
 def main():
     program = os.path.abspath(sys.argv[1])
     sizes = [int(word) for word in sys.argv[2:]] or [1, 8, 64]
-    print("net    MiB of the net  MiB in all  places  flows  seconds  of reading alone  peak MiB")
-    for size in sizes:
-        show("ring", program, size, ring_texts(size * MIB))
-    for size in sizes:
-        show("pairs", program, size, pairs_texts(size * MIB))
+    print("net      MiB  in all   places    flows  seconds  reading  peak MiB")
+    for label, maker in (("ring", ring_texts), ("pairs", pairs_texts)):
+        for size in sizes:
+            show(label, program, size * MIB, maker)
 
 
 main()
