@@ -24,7 +24,8 @@ impl<'a> Model for Words<'a> {
 pub fn is_white_byte(byte: u8) -> bool
     ensures { result ≡ is_white byte }
 {
-    matches!(byte, b' ' | b'\t' | b'\n' | b'\r')
+    // Nearly all bytes are past the first test.
+    byte <= b' ' && matches!(byte, b' ' | b'\t' | b'\n' | b'\r')
 }
 
 impl<'a> Words<'a> {
