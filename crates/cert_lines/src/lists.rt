@@ -49,6 +49,9 @@ impl Listed for Multiplier {
     }
 }
 
+/// Up to so many words are counted before they are read, so that a short list takes its room at once.
+const COUNTED: usize = 16;
+
 /// The values that the words write, where each of them writes one.
 pub fn read_list<T: Listed>(
     alloc: Global,
@@ -56,7 +59,7 @@ pub fn read_list<T: Listed>(
 ) -> Result<Option<Items<T>>, Memory>
     ensures { IfOk result (λ list. list ≡ all_of T.meaning words.old) }
 {
-    let mut list = Vec::new(alloc);
+    let mut list = Vec::with_capacity(alloc, words.count_up_to(COUNTED))?;
     while let Some(word) = words.next() {
         match T::read(alloc, word)? {
             Some(value) => list.push(value)?,

@@ -1,4 +1,4 @@
-ghost use Rattle.std.specs.Prelude.{◌≡◌, ◌<◌, ◌≤◌, ◌∷◌, [], None, Some, length, IfNone, IfSome};
+ghost use Rattle.std.specs.Prelude.{◌≡◌, ◌<◌, ◌≤◌, ◌∷◌, [], None, Some, length, min, IfNone, IfSome};
 ghost use Rattle.std.specs.List.{position_or_len};
 ghost use Rattle.std.specs.Option.{option_copied};
 ghost use Rattle.cert_lines.specs.Words.{IsDark, before_mark, behind_mark, is_white, words_of};
@@ -48,6 +48,21 @@ impl<'a> Words<'a> {
         let (word, rest) = cut_word(from);
         self.rest = rest;
         Some(word)
+    }
+
+    /// How many words there are, counted up to `most`.
+    pub fn count_up_to(&self, most: usize) -> usize
+        ensures { result ≡ min most (length self.now) }
+    {
+        let mut ahead = Words { rest: self.rest };
+        let mut count = 0;
+        while count < most {
+            if ahead.next().is_none() {
+                return count;
+            }
+            count += 1;
+        }
+        count
     }
 }
 
