@@ -54,27 +54,21 @@ pub origins_of_grown : (facts : List Fact) (fact : Fact) → steps_of fact.kind 
 origins_of_grown facts fact none = ap origins_of (last_of_grown facts fact) ∙ ap (map origin_of) none
 
 -- what an insertion of a new key leaves
-pub new_name : (keys : List (List ℕ)) (facts : List Fact) (fact : Fact) (name : List ℕ) (after : List (List ℕ))
-    → keys ≡ names_of facts → name ≡ fact.name → list_any (bytes_eq fact.name) (names_of facts) ≡ false
-    → after ≡ cond (list_any (bytes_eq name) keys) keys (keys ++ name ∷ []) → after ≡ names_of (facts ++ fact ∷ [])
-new_name keys facts fact name after known is fresh put =
+pub new_name : (keys : List (List ℕ)) (facts : List Fact) (fact : Fact) (after : List (List ℕ))
+    → keys ≡ names_of facts → list_any (bytes_eq fact.name) (names_of facts) ≡ false
+    → after ≡ cond (list_any (bytes_eq fact.name) keys) keys (keys ++ fact.name ∷ []) → after ≡ names_of (facts ++ fact ∷ [])
+new_name keys facts fact after known fresh put =
     put
-    ∙ cond-false _ _ _ (ap (λ n. list_any (bytes_eq n) keys) is ∙ ap (list_any (bytes_eq fact.name)) known ∙ fresh)
-    ∙ ap (λ n. keys ++ n ∷ []) is
+    ∙ cond-false _ _ _ (ap (list_any (bytes_eq fact.name)) known ∙ fresh)
     ∙ ap (λ ks. ks ++ fact.name ∷ []) known
     ∙ sym (names_of_grown facts fact)
 
-pub new_origin : (keys : List Origin) (facts : List Fact) (step : Step) (origin : Origin) (after : List Origin)
-    → keys ≡ origins_of (last_fact facts) → origin ≡ origin_of step → takes_steps (last_fact facts) ≡ true
+pub new_origin : (keys : List Origin) (facts : List Fact) (step : Step) (after : List Origin)
+    → keys ≡ origins_of (last_fact facts) → takes_steps (last_fact facts) ≡ true
     → list_any (same_origin (origin_of step)) (origins_of (last_fact facts)) ≡ false
-    → after ≡ cond (list_any (same_origin origin) keys) keys (keys ++ origin ∷ []) → after ≡ origins_of (last_fact (with_step facts step))
-new_origin keys facts step origin after known is bound fresh put =
+    → after ≡ cond (list_any (same_origin (origin_of step)) keys) keys (keys ++ origin_of step ∷ []) → after ≡ origins_of (last_fact (with_step facts step))
+new_origin keys facts step after known bound fresh put =
     put
-    ∙ cond-false _ _ _ (ap (λ o. list_any (same_origin o) keys) is ∙ ap (list_any (same_origin (origin_of step))) known ∙ fresh)
-    ∙ ap (λ o. keys ++ o ∷ []) is
+    ∙ cond-false _ _ _ (ap (list_any (same_origin (origin_of step))) known ∙ fresh)
     ∙ ap (λ ks. ks ++ origin_of step ∷ []) known
     ∙ sym (last_with_step facts step bound)
-
-pub origin_with : (step : Step) (transition : List ℕ) → transition ≡ step.transition
-    → ◌≡◌ {A = Origin} (record { transition = transition; binding = step.binding }) (origin_of step)
-origin_with step transition is = ap (λ t. (λ (o : Origin). o) (record { transition = t; binding = step.binding })) is

@@ -310,3 +310,8 @@ IsAnswer (Err (fault.Repeated number)) expected = expected ≡ Err (fault.Repeat
 IsAnswer (Err (fault.Coefficient number)) expected = expected ≡ Err (fault.Coefficient number)
 IsAnswer (Err (fault.CertLimit number)) expected = expected ≡ Err (fault.CertLimit number)
 IsAnswer (Err fault.Memory) expected = ⊤
+
+-- a draft has taken a line: it is the expected one, or the fault is the expected answer
+abbrev pub HasTaken : {A : Type 0} → Result A CertFault → DraftState → Result DraftState CertFault → Type 0
+HasTaken (Ok done) draft expected = expected ≡ Ok draft
+HasTaken (Err fault) draft expected = IsAnswer {A = DraftState} (Err fault) expected

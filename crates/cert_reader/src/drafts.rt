@@ -1,4 +1,4 @@
-ghost use Rattle.std.specs.Prelude.{◌≡◌, ◌++◌, ◌∷◌, [], false, true, IfOk};
+ghost use Rattle.std.specs.Prelude.{◌≡◌, ◌++◌, ◌∷◌, [], false, true, IfOk, OnOk};
 ghost use Rattle.std.specs.List.{list_any};
 ghost use Rattle.std.specs.Str.{bytes_eq};
 ghost use Rattle.cert_reader.specs.Reading.{amounts_of, branches_of, claim_amounts, kind_of, node_amounts};
@@ -50,7 +50,7 @@ impl Model for Draft {
 }
 
 impl Draft {
-    ghost use Rattle.cert_reader.specs.Reading.{IsAnswer, after, at_stage, cert_of, fact_at, finished, is_past_limits, is_repeated, last_fact, may_follow, may_stand, names_of, node_at, nothing_read, opens_after, origins_of, same_origin, step_at, take_line, take_said, take_statement, takes_steps, with_facts, with_node, with_property, with_step};
+    ghost use Rattle.cert_reader.specs.Reading.{HasTaken, after, cert_of, fact_at, finished, is_past_limits, is_repeated, last_fact, may_follow, may_stand, names_of, node_at, nothing_read, opens_after, origins_of, same_origin, step_at, take_line, take_said, take_statement, takes_steps, with_facts, with_node, with_step};
 
     /// Nothing read.
     pub fn new(alloc: Global) -> Result<Draft, Memory>
@@ -65,9 +65,9 @@ impl Draft {
         })
     }
 
-    /// The draft after a line, or the fault of the line.
-    pub fn read(self, alloc: Global, number: u32, bytes: &[u8]) -> Result<Draft, CertFault>
-        ensures { IsAnswer result (take_line number self bytes.now) }
+    /// Takes a line. After a fault nothing is said of the draft.
+    pub fn read(&mut self, alloc: Global, number: u32, bytes: &[u8]) -> Result<(), CertFault>
+        ensures { HasTaken result self.new (take_line number self.old bytes.now) }
     {
         match read_line(alloc, bytes) {
             Ok(line) => self.take_line(alloc, number, line),
@@ -75,18 +75,18 @@ impl Draft {
         }
     }
 
-    fn take_line(self, alloc: Global, number: u32, line: Line) -> Result<Draft, CertFault>
-        ensures { IsAnswer result (take_said number self line) }
+    fn take_line(&mut self, alloc: Global, number: u32, line: Line) -> Result<(), CertFault>
+        ensures { HasTaken result self.new (take_said number self.old line) }
     {
         match line {
-            Line::Passed => Ok(self),
+            Line::Passed => Ok(()),
             Line::Faulty => Err(CertFault::Line { number }),
             Line::Says(statement) => self.take(alloc, number, statement),
         }
     }
 
-    fn take(self, alloc: Global, number: u32, statement: Statement) -> Result<Draft, CertFault>
-        ensures { IsAnswer result (take_statement number self statement) }
+    fn take(&mut self, alloc: Global, number: u32, statement: Statement) -> Result<(), CertFault>
+        ensures { HasTaken result self.new (take_statement number self.old statement) }
     {
         if !self.may_stand(&statement) {
             return Err(CertFault::Line { number });
@@ -102,8 +102,8 @@ impl Draft {
         if self.is_past_limits(&statement) {
             return Err(CertFault::CertLimit { number });
         }
-        match self.after(alloc, number, statement) {
-            Ok(draft) => Ok(draft),
+        match self.add(alloc, number, statement) {
+            Ok(()) => Ok(()),
             Err(Memory) => Err(CertFault::Memory),
         }
     }
@@ -150,73 +150,57 @@ impl Draft {
         }
     }
 
-    fn after(self, alloc: Global, number: u32, statement: Statement) -> Result<Draft, Memory>
-        requires stands { may_stand self statement ≡ true }
-        requires fresh { is_repeated self statement ≡ false }
-        ensures { IfOk result (λ draft. draft ≡ after number self statement) }
+    fn add(&mut self, alloc: Global, number: u32, statement: Statement) -> Result<(), Memory>
+        requires stands { may_stand self.old statement ≡ true }
+        requires fresh { is_repeated self.old statement ≡ false }
+        ensures { OnOk result (self.new ≡ after number self.old statement) }
     {
         match statement {
-            Statement::Version => Ok(self.at(Stage::Property)),
-            Statement::Property(id) => Ok(self.with_property(id)),
-            Statement::Fact { name, claim } => self.with_fact(alloc, number, name, claim),
-            Statement::Step(claim) => self.with_step(alloc, number, claim),
-            Statement::Proof => Ok(self.at(Stage::Tree)),
-            Statement::Node(form) => self.with_node(number, form),
-            Statement::End => Ok(self.at(Stage::Nothing)),
+            Statement::Version => {
+                self.stage = Stage::Property;
+                Ok(())
+            }
+            Statement::Property(id) => {
+                self.stage = Stage::Facts;
+                self.property = id;
+                Ok(())
+            }
+            Statement::Fact { name, claim } => self.add_fact(alloc, number, name, claim),
+            Statement::Step(claim) => self.add_step(alloc, number, claim),
+            Statement::Proof => {
+                self.stage = Stage::Tree;
+                Ok(())
+            }
+            Statement::Node(form) => self.add_node(number, form),
+            Statement::End => {
+                self.stage = Stage::Nothing;
+                Ok(())
+            }
         }
     }
 
-    fn at(self, stage: Stage) -> Draft
-        ensures { result ≡ at_stage self stage }
-    {
-        Draft { stage, ..self }
-    }
-
-    fn with_property(self, property: Name) -> Draft
-        ensures { result ≡ with_property self property }
-    {
-        Draft {
-            stage: Stage::Facts,
-            property,
-            ..self
-        }
-    }
-
-    fn with_fact(
-        self,
+    fn add_fact(
+        &mut self,
         alloc: Global,
         number: u32,
         name: Name,
         claim: Claim,
-    ) -> Result<Draft, Memory>
-        requires { list_any (bytes_eq name) (names_of self.facts) ≡ false }
-        ensures { IfOk result (λ draft. draft ≡ with_facts self (self.facts ++ fact_at number name claim ∷ [])) }
+    ) -> Result<(), Memory>
+        requires { list_any (bytes_eq name) (names_of self.old.facts) ≡ false }
+        ensures { OnOk result (self.new ≡ with_facts self.old (self.old.facts ++ fact_at number name claim ∷ [])) }
     {
         let fact = Fact {
             line: number,
             name,
             kind: kind_of_claim(alloc, claim),
         };
-        let Draft {
-            stage,
-            property,
-            facts,
-            tree,
-            opens,
-        } = self;
-        Ok(Draft {
-            stage,
-            property,
-            facts: facts.with(alloc, fact)?,
-            tree,
-            opens,
-        })
+        self.facts.add(alloc, fact)
     }
 
-    fn with_step(self, alloc: Global, number: u32, claim: StepClaim) -> Result<Draft, Memory>
-        requires fresh { list_any (same_origin claim.origin) (origins_of (last_fact self.facts)) ≡ false }
-        requires bound { takes_steps (last_fact self.facts) ≡ true }
-        ensures { IfOk result (λ draft. draft ≡ with_facts self (with_step self.facts (step_at number claim))) }
+    fn add_step(&mut self, alloc: Global, number: u32, claim: StepClaim) -> Result<(), Memory>
+        requires fresh { list_any (same_origin claim.origin) (origins_of (last_fact self.old.facts)) ≡ false }
+        requires bound { takes_steps (last_fact self.old.facts) ≡ true }
+        ensures { OnOk result (self.new ≡ with_facts self.old (with_step self.old.facts (step_at number claim))) }
     {
         let StepClaim {
             origin: Origin {
@@ -235,41 +219,16 @@ impl Draft {
             keep,
             factors,
         };
-        let Draft {
-            stage,
-            property,
-            facts,
-            tree,
-            opens,
-        } = self;
-        Ok(Draft {
-            stage,
-            property,
-            facts: facts.with_step(alloc, step)?,
-            tree,
-            opens,
-        })
+        self.facts.add_step(alloc, step)
     }
 
-    fn with_node(self, number: u32, form: NodeForm) -> Result<Draft, Memory>
-        ensures { IfOk result (λ draft. draft ≡ with_node self (node_at number form) (opens_after (branches_of form) self.opens)) }
+    fn add_node(&mut self, number: u32, form: NodeForm) -> Result<(), Memory>
+        ensures { OnOk result (self.new ≡ with_node self.old (node_at number form) (opens_after (branches_of form) self.old.opens)) }
     {
-        let Draft {
-            property,
-            facts,
-            mut tree,
-            mut opens,
-            ..
-        } = self;
-        opens.enter(branches_of(&form))?;
-        tree.push(Node { line: number, form })?;
-        Ok(Draft {
-            stage: opens.stage(),
-            property,
-            facts,
-            tree,
-            opens,
-        })
+        self.opens.enter(branches_of(&form))?;
+        self.tree.push(Node { line: number, form })?;
+        self.stage = self.opens.stage();
+        Ok(())
     }
 
     /// The certificate, where nothing is to come; `number` is that of the line after the last.

@@ -1,7 +1,8 @@
-ghost use Rattle.std.specs.Prelude.{◌≡◌, [], ◌∷◌, ◌++◌, false, true, IfOk};
+ghost use Rattle.std.specs.Prelude.{◌≡◌, [], ◌∷◌, ◌++◌, false, true, IfOk, OnOk};
 ghost use Rattle.std.specs.List.{list_any};
 ghost use Rattle.std.specs.Str.{bytes_eq};
-ghost use Rattle.cert_reader.specs.Reading.{is_bound, stepped, with_step};
+ghost use Rattle.indexmap.specs.IndexSet.{insert_key};
+ghost use Rattle.cert_reader.specs.Reading.{is_bound, origin_of, same_origin, stepped, with_step};
 
 use cert_lines::{Fact, FactKind, Origin, Step};
 use indexmap::IndexSet;
@@ -71,46 +72,40 @@ impl Facts {
         }
     }
 
-    /// The facts with one more, which has no steps yet.
-    pub fn with(self, alloc: Global, fact: Fact) -> Result<Facts, Memory>
-        requires fresh { list_any (bytes_eq fact.name) (names_of self) ≡ false }
+    /// Puts a fact without steps behind the others.
+    pub fn add(&mut self, alloc: Global, fact: Fact) -> Result<(), Memory>
+        requires fresh { list_any (bytes_eq fact.name) (names_of self.old) ≡ false }
         requires new { steps_of fact.kind ≡ [] }
-        ensures { IfOk result (λ facts. facts ≡ self ++ fact ∷ []) }
+        ensures { OnOk result (self.new ≡ self.old ++ fact ∷ []) }
     {
-        let Facts {
-            mut list,
-            mut names,
-            ..
-        } = self;
-        names.insert(fact.name.copy(alloc)?)?;
-        list.push(fact)?;
-        Ok(Facts {
-            list,
-            names,
-            origins: IndexSet::new(alloc),
-        })
+        match put_fact(
+            alloc,
+            &mut self.list,
+            &mut self.names,
+            &mut self.origins,
+            fact,
+        ) {
+            Ok(()) => Ok(()),
+            Err(Memory) => {
+                *self = Facts::new(alloc);
+                Err(Memory)
+            }
+        }
     }
 
-    /// The facts with one more step of the last one.
-    pub fn with_step(self, alloc: Global, step: Step) -> Result<Facts, Memory>
-        requires fresh { list_any (same_origin (origin_of step)) (origins_of (last_fact self)) ≡ false }
-        requires bound { takes_steps (last_fact self) ≡ true }
-        ensures { IfOk result (λ facts. facts ≡ with_step self step) }
+    /// Puts a step behind the others of the last fact.
+    pub fn add_step(&mut self, alloc: Global, step: Step) -> Result<(), Memory>
+        requires fresh { list_any (same_origin (origin_of step)) (origins_of (last_fact self.old)) ≡ false }
+        requires bound { takes_steps (last_fact self.old) ≡ true }
+        ensures { OnOk result (self.new ≡ with_step self.old step) }
     {
-        let Facts {
-            list,
-            names,
-            mut origins,
-        } = self;
-        origins.insert(Origin {
-            transition: step.transition.copy(alloc)?,
-            binding: step.binding,
-        })?;
-        Ok(Facts {
-            list: list_with_step(alloc, list, step)?,
-            names,
-            origins,
-        })
+        match put_step(alloc, &mut self.list, &mut self.origins, step) {
+            Ok(()) => Ok(()),
+            Err(Memory) => {
+                *self = Facts::new(alloc);
+                Err(Memory)
+            }
+        }
     }
 
     /// All facts in order.
@@ -128,16 +123,64 @@ fn is_bound_kind(kind: &FactKind) -> bool
     matches!(kind, FactKind::Bound { .. })
 }
 
-/// The facts with one more step of the last one.
-fn list_with_step(alloc: Global, facts: Vec<Fact>, step: Step) -> Result<Vec<Fact>, Memory>
-    ensures { IfOk result (λ grown. grown.items ≡ with_step facts.items step) }
+/// Puts a fact into the list, its name into the set of names, and empties the set of origins.
+fn put_fact(
+    alloc: Global,
+    list: &mut Vec<Fact>,
+    names: &mut IndexSet<Name>,
+    origins: &mut IndexSet<Origin>,
+    fact: Fact,
+) -> Result<(), Memory>
+    ensures list { OnOk result (list.new.items ≡ list.old.items ++ fact ∷ []) }
+    ensures names { OnOk result (names.new.keys ≡ insert_key bytes_eq names.old.keys fact.name) }
+    ensures origins { OnOk result (origins.new.keys ≡ []) }
 {
-    let mut list = facts;
+    names.insert(fact.name.copy(alloc)?)?;
+    list.push(fact)?;
+    empty(alloc, origins);
+    Ok(())
+}
+
+/// A set with more room than this is not kept, since emptying it takes time for all of its room.
+const KEPT_ROOM: usize = 64;
+
+/// Takes all origins out of the set.
+fn empty(alloc: Global, origins: &mut IndexSet<Origin>)
+    ensures { origins.new.keys ≡ [] }
+{
+    if origins.capacity() > KEPT_ROOM {
+        *origins = IndexSet::new(alloc);
+    } else {
+        origins.clear();
+    }
+}
+
+/// Puts a step into the last fact of the list, and its origin into the set of origins.
+fn put_step(
+    alloc: Global,
+    list: &mut Vec<Fact>,
+    origins: &mut IndexSet<Origin>,
+    step: Step,
+) -> Result<(), Memory>
+    ensures list { OnOk result (list.new.items ≡ with_step list.old.items step) }
+    ensures origins { OnOk result (origins.new.keys ≡ insert_key same_origin origins.old.keys (origin_of step)) }
+{
+    origins.insert(Origin {
+        transition: step.transition.copy(alloc)?,
+        binding: step.binding,
+    })?;
+    add_to_last(alloc, list, step)
+}
+
+/// Puts a step behind the others of the last fact.
+fn add_to_last(alloc: Global, list: &mut Vec<Fact>, step: Step) -> Result<(), Memory>
+    ensures { OnOk result (list.new.items ≡ with_step list.old.items step) }
+{
     let Some(last) = list.pop() else {
-        return Ok(list);
+        return Ok(());
     };
     list.push(fact_with_step(alloc, last, step)?)?;
-    Ok(list)
+    Ok(())
 }
 
 fn fact_with_step(alloc: Global, fact: Fact, step: Step) -> Result<Fact, Memory>

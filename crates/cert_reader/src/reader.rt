@@ -1,5 +1,5 @@
 ghost use Rattle.std.specs.Prelude.{◌≡◌, ◌+◌, ◌-◌, ◌^◌, ◌<◌, ◌≤◌, ◌++◌, ◌∷◌, [], ℕ, List, None, Err, length, IfOk, IfErr, IfSome, IfNone, OnOk};
-ghost use Rattle.cert_reader.specs.Reading.{IsAnswer, certificate_of, read_lines, take_line};
+ghost use Rattle.cert_reader.specs.Reading.{HasTaken, IsAnswer, certificate_of, read_lines, take_line};
 ghost use Rattle.cert_lines.specs.Words.{behind_mark, lines_of};
 
 use crate::drafts::Draft;
@@ -7,7 +7,6 @@ use crate::faults::CertFault;
 use cert_lines::{Cert, cut_at};
 use std::alloc::Global;
 use std::marker::Model;
-use std::mem;
 use wide_sums::Memory;
 
 /// The certificate that the bytes spell, or their first fault.
@@ -133,13 +132,15 @@ impl CertReader {
         ensures number { OnOk result (self.new.number ≡ self.old.number + 1) }
         ensures fed { self.new.fed ≡ self.old.fed }
     {
-        let draft = match mem::replace(&mut self.state, Err(CertFault::Memory)) {
+        let draft = match &mut self.state {
             Ok(draft) => draft,
-            Err(fault) => return self.refuse(fault),
+            Err(fault) => {
+                let fault = *fault;
+                return self.refuse(fault);
+            }
         };
         match read_end(self.alloc, draft, self.number, &mut self.rest, end) {
-            Ok(next) => {
-                self.state = Ok(next);
+            Ok(()) => {
                 self.number += 1;
                 Ok(())
             }
@@ -180,26 +181,26 @@ fn cut_line(bytes: &[u8]) -> (&[u8], Option<&[u8]>)
     cut_at(bytes, b'\n')
 }
 
-/// The draft after a line of which `rest` are the first bytes and `end` the last ones; `rest` is emptied.
+/// Takes a line of which `rest` are the first bytes and `end` the last ones; `rest` is emptied.
 fn read_end(
     alloc: Global,
-    draft: Draft,
+    draft: &mut Draft,
     number: u32,
     rest: &mut Vec<u8>,
     end: &[u8],
-) -> Result<Draft, CertFault>
-    ensures answer { IsAnswer result (take_line number draft (rest.old.items ++ end.now)) }
+) -> Result<(), CertFault>
+    ensures taken { HasTaken result draft.new (take_line number draft.old (rest.old.items ++ end.now)) }
     ensures rest { rest.new.items ≡ [] }
 {
     if rest.is_empty() {
         return draft.read(alloc, number, end);
     }
-    let next = match rest.extend_from_slice(end) {
+    let taken = match rest.extend_from_slice(end) {
         Ok(()) => draft.read(alloc, number, rest.as_slice()),
         Err(_) => Err(CertFault::Memory),
     };
     rest.clear();
-    next
+    taken
 }
 
 /// The certificate, where `rest` are the bytes of the last line.
@@ -211,8 +212,9 @@ fn finish_draft(alloc: Global, draft: Draft, number: u32, rest: &[u8]) -> Result
     if rest.is_empty() {
         return draft.finish(number);
     }
-    match draft.read(alloc, number, rest) {
-        Ok(next) => next.finish(number + 1),
+    let mut next = draft;
+    match next.read(alloc, number, rest) {
+        Ok(()) => next.finish(number + 1),
         Err(fault) => Err(fault),
     }
 }

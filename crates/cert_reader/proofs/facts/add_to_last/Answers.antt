@@ -1,7 +1,7 @@
 use Rattle.std.proofs.Common.{◌∙◌, ap, sym, ◌++◌, ◌∷◌, []}
 use Rattle.cert_reader.specs.Reading.{with_step}
 use Rattle.cert_reader.proofs.FactLists.{with_step_of_grown}
-use Rattle.cert_reader.proofs.facts.list_with_step.Goals as goal
+use Rattle.cert_reader.proofs.facts.add_to_last.Goals as goal
 
 pub returns : goal.returns
 returns c =
