@@ -1,6 +1,6 @@
 -- The grammars of ids and of numbers.
 use Rattle.std.specs.Prelude.{ℕ, true, ◌+◌, ◌-◌, ◌*◌, ◌^◌, Bool, ◌&&◌, ◌||◌, ◌==◌, nat_lt, nat_le, ◌<◌, ◌≡◌, unsigned_abs, List, [], ◌∷◌, length, drop, slice_index, Option, None, Some, ℤ, pos, neg_ℤ, if◌then◌else◌}
-use Rattle.std.specs.Char.{is_ascii_alphanumeric, is_ascii_digit}
+use Rattle.std.specs.Char.{is_ascii, is_ascii_alphanumeric, is_ascii_digit}
 use Rattle.std.specs.Fmt.{decimal, signed_decimal}
 use Rattle.std.specs.List.{list_all}
 use Rattle.std.specs.Option.{option_map}
@@ -9,6 +9,10 @@ use Rattle.std.specs.Str.{is_utf8, chars}
 -- a character of an id: an ASCII letter or digit, `_`, `-`, `.`, `:`, or any character past ASCII
 abbrev pub is_id_character : ℕ → Bool
 is_id_character c = is_ascii_alphanumeric c || c == 95 || c == 45 || c == 46 || c == 58 || nat_le 128 c
+
+-- one of these in ASCII
+abbrev pub is_ascii_id_character : ℕ → Bool
+is_ascii_id_character c = is_ascii c && is_id_character c
 
 -- an id: one or more of these characters, in well-formed UTF-8
 unfoldable pub is_id_text : List ℕ → Bool

@@ -4,7 +4,7 @@ ghost use Rattle.std.specs.Char.{is_ascii_digit};
 ghost use Rattle.std.specs.Str.{chars};
 ghost use Rattle.std.specs.Fmt.{signed_decimal};
 ghost use Rattle.std.specs.Option.{option_map};
-ghost use Rattle.name_tables.specs.Grammar.{DecimalIsReadBack, UnsignedDecimalIsReadBack, is_id_character, is_id_text, magnitude_of, number_of};
+ghost use Rattle.name_tables.specs.Grammar.{DecimalIsReadBack, UnsignedDecimalIsReadBack, is_ascii_id_character, is_id_character, is_id_text, magnitude_of, number_of};
 
 use crate::names::Name;
 use itoa::Buffer;
@@ -29,6 +29,41 @@ fn are_id_chars(text: &str) -> bool
 /// Whether the bytes are an id: one or more characters in UTF-8, each an ASCII letter or digit, `_`, `-`, `.`, `:` or any
 /// character past ASCII.
 pub fn is_id(bytes: &[u8]) -> bool
+    ensures { result ≡ is_id_text bytes.now }
+{
+    // Most ids are ASCII, and need not be decoded.
+    if are_ascii_id_bytes(bytes) {
+        return !bytes.is_empty();
+    }
+    is_id_in_utf8(bytes)
+}
+
+/// Whether each ASCII byte stands in ids. A look-up takes half the time of the tests.
+const ARE_ID_BYTES: [bool; 128] = [
+    false, false, false, false, false, false, false, false, false, false, false, false, false,
+    false, false, false, false, false, false, false, false, false, false, false, false, false,
+    false, false, false, false, false, false, false, false, false, false, false, false, false,
+    false, false, false, false, false, false, true, true, false, true, true, true, true, true,
+    true, true, true, true, true, true, false, false, false, false, false, false, true, true, true,
+    true, true, true, true, true, true, true, true, true, true, true, true, true, true, true, true,
+    true, true, true, true, true, true, true, false, false, false, false, true, false, true, true,
+    true, true, true, true, true, true, true, true, true, true, true, true, true, true, true, true,
+    true, true, true, true, true, true, true, true, false, false, false, false, false,
+];
+
+fn is_ascii_id_byte(byte: u8) -> bool
+    ensures { result ≡ is_ascii_id_character byte }
+{
+    byte.is_ascii() && ARE_ID_BYTES[byte as usize]
+}
+
+fn are_ascii_id_bytes(bytes: &[u8]) -> bool
+    ensures { result ≡ list_all is_ascii_id_character bytes.now }
+{
+    bytes.iter().all(|byte| is_ascii_id_byte(*byte))
+}
+
+fn is_id_in_utf8(bytes: &[u8]) -> bool
     ensures { result ≡ is_id_text bytes.now }
 {
     match str::from_utf8(bytes) {
@@ -57,28 +92,27 @@ fn read_negative(digits: &[u8]) -> Option<i64>
     }
 }
 
+/// A number past this one is past 2^63 - 1 with one digit more.
+const MOST_BEFORE_A_DIGIT: u64 = 922_337_203_685_477_580;
+
 fn read_digits(digits: &[u8]) -> Option<i64>
     ensures { result ≡ option_map pos (magnitude_of digits.now) }
 {
-    if are_digits(digits) {
-        parse_digits(digits)
-    } else {
-        None
+    if digits.is_empty() {
+        return None;
     }
-}
-
-fn are_digits(bytes: &[u8]) -> bool
-    ensures { result ≡ list_all is_ascii_digit bytes.now }
-{
-    bytes.iter().all(|byte| byte.is_ascii_digit())
-}
-
-fn parse_digits(digits: &[u8]) -> Option<i64>
-    requires { list_all is_ascii_digit digits.now ≡ true }
-    ensures { result ≡ option_map pos (magnitude_of digits.now) }
-{
-    match str::from_utf8(digits) {
-        Ok(text) => text.parse().ok(),
+    let mut value: u64 = 0;
+    for byte in digits {
+        if !byte.is_ascii_digit() {
+            return None;
+        }
+        if value > MOST_BEFORE_A_DIGIT {
+            return None;
+        }
+        value = value * 10 + (*byte - b'0') as u64;
+    }
+    match i64::try_from(value) {
+        Ok(number) => Some(number),
         Err(_) => None,
     }
 }

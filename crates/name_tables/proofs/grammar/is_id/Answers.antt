@@ -1,19 +1,7 @@
-use Rattle.std.proofs.Common.{sym, ◌∙◌, ap, not}
-use Rattle.std.specs.Str.{chars}
-use Rattle.std.specs.List.{list_all}
-use Rattle.name_tables.specs.Grammar.{is_id_character}
-use Rattle.name_tables.proofs.IdTexts.{id-valid, id-empty, id-invalid}
+use Rattle.std.proofs.Common.{not, sym, ap, ◌∙◌}
+use Rattle.name_tables.proofs.IdTexts.{id-ascii}
 use Rattle.name_tables.proofs.grammar.is_id.Goals as goal
 
-pub returns-then-not-is_empty : goal.returns-then-not-is_empty
-returns-then-not-is_empty c =
-    c.are_id_chars.ensures
-    ∙ ap (λ text. list_all is_id_character (chars text)) c.in-Ok.ensures.cases.0
-    ∙ id-valid c.args.bytes.now c.in-Ok.ensures.cases.1 (sym c.is_empty.ensures ∙ c.if-not-is_empty.true)
-
-pub returns-else-not-is_empty : goal.returns-else-not-is_empty
-returns-else-not-is_empty c =
-    ap not c.if-not-is_empty.false ∙ id-empty c.args.bytes.now (sym c.is_empty.ensures ∙ c.if-not-is_empty.false)
-
-pub returns-in-Err : goal.returns-in-Err
-returns-in-Err c = id-invalid c.args.bytes.now c.in-Err.ensures.cases.0
+pub returns-then-are_ascii_id_bytes : goal.returns-then-are_ascii_id_bytes
+returns-then-are_ascii_id_bytes c =
+    ap not c.is_empty.ensures ∙ id-ascii c.args.bytes.now (sym c.are_ascii_id_bytes.ensures ∙ c.if-are_ascii_id_bytes.true)
