@@ -49,9 +49,6 @@ impl Listed for Multiplier {
     }
 }
 
-/// Up to so many words are counted before they are read, so that a short list takes its room at once.
-const COUNTED: usize = 16;
-
 /// The values that the words write, where each of them writes one.
 pub fn read_list<T: Listed>(
     alloc: Global,
@@ -59,7 +56,8 @@ pub fn read_list<T: Listed>(
 ) -> Result<Option<Items<T>>, Memory>
     ensures { IfOk result (λ list. list ≡ all_of T.meaning words.old) }
 {
-    let mut list = Vec::with_capacity(alloc, words.count_up_to(COUNTED))?;
+    // A short list takes its room at once.
+    let mut list = Vec::with_capacity(alloc, words.spaces_ahead())?;
     while let Some(word) = words.next() {
         match T::read(alloc, word)? {
             Some(value) => list.push(value)?,

@@ -1,7 +1,7 @@
 ghost use Rattle.std.specs.Prelude.{◌≡◌, ◌+◌, ◌≤◌, ◌<◌, ◌^◌, ◌∷◌, ℕ, List, IfOk, MatchBool, decimal, map, sum_by};
 ghost use Rattle.std.specs.Bool.{OnTrue};
 ghost use Rattle.std.specs.Str.{bytes_eq};
-ghost use Rattle.indexmap.specs.IndexMap.{get};
+ghost use Rattle.indexmap.specs.IndexMap.{get_by};
 ghost use Rattle.cert_lines.specs.Sums.{are_past, factor_amount, multiplier_amount, or_zero, share, weight_amount};
 
 use crate::certificates::{Factor, Multiplier, Weight};
@@ -22,9 +22,9 @@ pub trait Valued: Sized + Drop {
     fn size(&self) -> u64
         ensures { result ≡ (amount self.now).1 };
 
-    /// What it stands on.
-    fn name(&self, alloc: Global) -> Result<Name, Memory>
-        ensures { IfOk result (λ name. name ≡ (amount self.now).0) };
+    /// Whether the absolute values on one name add up past 2^63 - 1, added up name by name.
+    fn sums_are_past(alloc: Global, items: &[Self]) -> Result<bool, Memory>
+        ensures { IfOk result (λ past. past ≡ are_past (map amount items.now)) };
 }
 
 impl Valued for Weight {
@@ -34,8 +34,8 @@ impl Valued for Weight {
         self.value.unsigned_abs()
     }
 
-    fn name(&self, alloc: Global) -> Result<Name, Memory> {
-        self.place.place.copy(alloc)
+    fn sums_are_past(alloc: Global, items: &[Weight]) -> Result<bool, Memory> {
+        is_past_by_name(alloc, items)
     }
 }
 
@@ -46,8 +46,8 @@ impl Valued for Factor {
         self.value.unsigned_abs()
     }
 
-    fn name(&self, alloc: Global) -> Result<Name, Memory> {
-        self.fact.copy(alloc)
+    fn sums_are_past(alloc: Global, items: &[Factor]) -> Result<bool, Memory> {
+        is_past_by_name(alloc, items)
     }
 }
 
@@ -61,12 +61,74 @@ impl Valued for Multiplier {
         }
     }
 
-    fn name(&self, alloc: Global) -> Result<Name, Memory> {
-        match self {
-            Multiplier::Fact(factor) => factor.fact.copy(alloc),
-            Multiplier::Hypothesis { number, .. } => hypothesis_name(alloc, *number),
-        }
+    fn sums_are_past(alloc: Global, items: &[Multiplier]) -> Result<bool, Memory> {
+        let amounts = amounts_of(alloc, items)?;
+        is_past_by_name(alloc, amounts.as_slice())
     }
+}
+
+/// A value that has the name of what it stands on.
+trait Named: Sized + Drop {
+    ghost named_amount: { Self → List ℕ × ℕ };
+
+    /// What it stands on, and the absolute value of its coefficient.
+    fn amount(&self) -> (&[u8], u64)
+        ensures { (result.0.now, result.1) ≡ named_amount self.now };
+}
+
+impl Named for Weight {
+    ghost named_amount = { weight_amount };
+
+    fn amount(&self) -> (&[u8], u64) {
+        (self.place.place.bytes(), self.value.unsigned_abs())
+    }
+}
+
+impl Named for Factor {
+    ghost named_amount = { factor_amount };
+
+    fn amount(&self) -> (&[u8], u64) {
+        (self.fact.bytes(), self.value.unsigned_abs())
+    }
+}
+
+/// What a multiplier stands on, with a name made for each hypothesis, and its absolute value.
+#[derive(Drop)]
+struct Amount {
+    name: Name,
+    size: u64,
+}
+
+impl Named for Amount {
+    ghost named_amount = { λ amount. (amount.name, amount.size) };
+
+    fn amount(&self) -> (&[u8], u64) {
+        (self.name.bytes(), self.size)
+    }
+}
+
+fn amounts_of(alloc: Global, multipliers: &[Multiplier]) -> Result<Vec<Amount>, Memory>
+    ensures { IfOk result (λ amounts.
+        map (λ amount. (amount.name, amount.size)) amounts.items ≡ map multiplier_amount multipliers.now) }
+{
+    let mut amounts = Vec::with_capacity(alloc, multipliers.len())?;
+    for multiplier in multipliers {
+        amounts.push(amount_of(alloc, multiplier)?)?;
+    }
+    Ok(amounts)
+}
+
+fn amount_of(alloc: Global, multiplier: &Multiplier) -> Result<Amount, Memory>
+    ensures { IfOk result (λ amount. (amount.name, amount.size) ≡ multiplier_amount multiplier.now) }
+{
+    let name = match multiplier {
+        Multiplier::Fact(factor) => factor.fact.copy(alloc)?,
+        Multiplier::Hypothesis { number, .. } => hypothesis_name(alloc, *number)?,
+    };
+    Ok(Amount {
+        name,
+        size: multiplier.size(),
+    })
 }
 
 fn hypothesis_name(alloc: Global, number: u32) -> Result<Name, Memory>
@@ -85,7 +147,7 @@ pub fn is_past<T: Valued>(alloc: Global, items: &[T]) -> Result<bool, Memory>
     if are_few(items) {
         Ok(false)
     } else {
-        is_past_by_name(alloc, items)
+        T::sums_are_past(alloc, items)
     }
 }
 
@@ -104,12 +166,13 @@ fn are_few<T: Valued>(items: &[T]) -> bool
     true
 }
 
-fn is_past_by_name<T: Valued>(alloc: Global, items: &[T]) -> Result<bool, Memory>
-    ensures { IfOk result (λ past. past ≡ are_past (map T.amount items.now)) }
+fn is_past_by_name<T: Named>(alloc: Global, items: &[T]) -> Result<bool, Memory>
+    ensures { IfOk result (λ past. past ≡ are_past (map T.named_amount items.now)) }
 {
     let mut sums = IndexMap::with_capacity(alloc, items.len())?;
     for item in items {
-        if !add_to(alloc, &mut sums, item)? {
+        let pair = item.amount();
+        if !add_to(&mut sums, pair.0, pair.1)? {
             return Ok(true);
         }
     }
@@ -117,21 +180,19 @@ fn is_past_by_name<T: Valued>(alloc: Global, items: &[T]) -> Result<bool, Memory
 }
 
 /// Adds an absolute value to the sum on its name; `false` where that would pass 2^63 - 1.
-fn add_to<T: Valued>(
-    alloc: Global,
-    sums: &mut IndexMap<Name, u64>,
-    item: &T,
-) -> Result<bool, Memory>
-    requires { (q : List ℕ) → or_zero (get bytes_eq sums.old q) < 2 ^ 63 }
+fn add_to<'a>(sums: &mut IndexMap<&'a [u8], u64>, name: &'a [u8], size: u64) -> Result<bool, Memory>
+    requires { (q : List ℕ) → or_zero (get_by (λ key. bytes_eq q key.now) sums.old) < 2 ^ 63 }
     ensures { IfOk result (λ added. MatchBool added
-        ((q : List ℕ) → (or_zero (get bytes_eq sums.new q) ≡ or_zero (get bytes_eq sums.old q) + share q (T.amount item.now)) × (or_zero (get bytes_eq sums.new q) < 2 ^ 63))
-        (2 ^ 63 ≤ or_zero (get bytes_eq sums.old (T.amount item.now).0) + (T.amount item.now).1)) }
+        ((q : List ℕ) → (or_zero (get_by (λ key. bytes_eq q key.now) sums.new) ≡ or_zero (get_by (λ key. bytes_eq q key.now) sums.old) + share q (name.now, size))
+        × (or_zero (get_by (λ key. bytes_eq q key.now) sums.new) < 2 ^ 63))
+        (2 ^ 63 ≤ or_zero (get_by (λ key. bytes_eq name.now key.now) sums.old) + size)) }
 {
-    let name = item.name(alloc)?;
-    let size = item.size();
-    let before = match sums.get(&name) {
-        Some(sum) => *sum,
-        None => 0,
+    if size > MOST {
+        return Ok(false);
+    }
+    // Most names come once.
+    let Some(before) = sums.insert(name, size)? else {
+        return Ok(true);
     };
     if size > MOST - before {
         return Ok(false);

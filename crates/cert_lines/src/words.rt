@@ -1,9 +1,9 @@
-ghost use Rattle.std.specs.Prelude.{◌≡◌, ◌<◌, ◌≤◌, ◌∷◌, [], None, Some, length, min, IfNone, IfSome};
+ghost use Rattle.std.specs.Prelude.{◌≡◌, ◌<◌, ◌≤◌, ◌∷◌, [], None, Some, length, IfNone, IfSome};
 ghost use Rattle.std.specs.List.{position_or_len};
 ghost use Rattle.std.specs.Option.{option_copied};
 ghost use Rattle.cert_lines.specs.Words.{IsDark, before_mark, behind_mark, is_white, words_of};
 
-use memchr::memchr;
+use memchr::{memchr, memchr_iter};
 use std::marker::Model;
 
 /// The words of a line that are still to be read, seen as their list.
@@ -20,6 +20,9 @@ impl<'a> Model for Words<'a> {
 
     ghost view = { λ w. words_of w.rest.now };
 }
+
+/// How many bytes `spaces_ahead` looks at.
+const LOOKED_AHEAD: usize = 256;
 
 pub fn is_white_byte(byte: u8) -> bool
     ensures { result ≡ is_white byte }
@@ -50,19 +53,12 @@ impl<'a> Words<'a> {
         Some(word)
     }
 
-    /// How many words there are, counted up to `most`.
-    pub fn count_up_to(&self, most: usize) -> usize
-        ensures { result ≡ min most (length self.now) }
+    /// How many spaces stand in the next bytes. In a short line with one space before each word it is the number of words.
+    pub fn spaces_ahead(&self) -> usize
+        ensures { result ≤ 256 }
     {
-        let mut ahead = Words { rest: self.rest };
-        let mut count = 0;
-        while count < most {
-            if ahead.next().is_none() {
-                return count;
-            }
-            count += 1;
-        }
-        count
+        let front = &self.rest[..self.rest.len().min(LOOKED_AHEAD)];
+        memchr_iter(b' ', front).count()
     }
 }
 

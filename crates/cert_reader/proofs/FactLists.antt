@@ -1,5 +1,5 @@
 -- Lists of facts that grow at their end.
-use Rattle.std.proofs.Common.{◌≡◌, ℕ, suc, true, false, cond, List, [], ◌∷◌, ◌++◌, length, map, Some, refl, sym, ap, ◌∙◌, arith}
+use Rattle.std.proofs.Common.{◌≡◌, ℕ, suc, Bool, true, false, not, cond, List, [], ◌∷◌, ◌++◌, length, map, Some, refl, sym, ap, ◌∙◌, arith}
 use Rattle.std.specs.Prelude.{◌-◌, slice_get}
 use Rattle.std.specs.List.{list_any}
 use Rattle.std.specs.Str.{bytes_eq}
@@ -53,16 +53,33 @@ names_of_grown facts fact = map-append (λ f. f.name) facts (fact ∷ [])
 pub origins_of_grown : (facts : List Fact) (fact : Fact) → steps_of fact.kind ≡ [] → origins_of (last_fact (facts ++ fact ∷ [])) ≡ []
 origins_of_grown facts fact none = ap origins_of (last_of_grown facts fact) ∙ ap (map origin_of) none
 
--- what an insertion of a new key leaves
-pub new_name : (keys : List (List ℕ)) (facts : List Fact) (fact : Fact) (after : List (List ℕ))
-    → keys ≡ names_of facts → list_any (bytes_eq fact.name) (names_of facts) ≡ false
-    → after ≡ cond (list_any (bytes_eq fact.name) keys) keys (keys ++ fact.name ∷ []) → after ≡ names_of (facts ++ fact ∷ [])
-new_name keys facts fact after known fresh put =
-    put
-    ∙ cond-false _ _ _ (ap (list_any (bytes_eq fact.name)) known ∙ fresh)
-    ∙ ap (λ ks. ks ++ fact.name ∷ []) known
-    ∙ sym (names_of_grown facts fact)
+-- what the insertion of a fact's name leaves, where the fact is put behind the others if its name was new
+pub names_put : (keys after : List (List ℕ)) (facts now : List Fact) (fact : Fact) (added : Bool)
+    → keys ≡ names_of facts → added ≡ not (list_any (bytes_eq fact.name) keys) → now ≡ cond added (facts ++ fact ∷ []) facts
+    → after ≡ cond (list_any (bytes_eq fact.name) keys) keys (keys ++ fact.name ∷ []) → after ≡ names_of now
+names_put keys after facts now fact added known new is put = by (list_any (bytes_eq fact.name) keys) refl
+  where
+    by : (t : Bool) → list_any (bytes_eq fact.name) keys ≡ t → after ≡ names_of now
+    by true e =
+        put
+        ∙ ap (λ t. cond t keys (keys ++ fact.name ∷ [])) e
+        ∙ known
+        ∙ ap names_of (sym (is ∙ ap (λ a. cond a (facts ++ fact ∷ []) facts) (new ∙ ap not e)))
+    by false e =
+        put
+        ∙ ap (λ t. cond t keys (keys ++ fact.name ∷ [])) e
+        ∙ ap (λ ks. ks ++ fact.name ∷ []) known
+        ∙ sym (names_of_grown facts fact)
+        ∙ ap names_of (sym (is ∙ ap (λ a. cond a (facts ++ fact ∷ []) facts) (new ∙ ap not e)))
 
+pub origins_put : (before after : List Origin) (facts now : List Fact) (fact : Fact) (added : Bool)
+    → before ≡ origins_of (last_fact facts) → steps_of fact.kind ≡ [] → now ≡ cond added (facts ++ fact ∷ []) facts
+    → after ≡ cond added [] before → after ≡ origins_of (last_fact now)
+origins_put before after facts now fact true known none is put =
+    put ∙ sym (origins_of_grown facts fact none) ∙ ap (λ fs. origins_of (last_fact fs)) (sym is)
+origins_put before after facts now fact false known none is put = put ∙ known ∙ ap (λ fs. origins_of (last_fact fs)) (sym is)
+
+-- what the insertion of a new transition instance leaves
 pub new_origin : (keys : List Origin) (facts : List Fact) (step : Step) (after : List Origin)
     → keys ≡ origins_of (last_fact facts) → takes_steps (last_fact facts) ≡ true
     → list_any (same_origin (origin_of step)) (origins_of (last_fact facts)) ≡ false

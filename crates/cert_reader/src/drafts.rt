@@ -1,7 +1,7 @@
-ghost use Rattle.std.specs.Prelude.{◌≡◌, ◌++◌, ◌∷◌, [], false, true, IfOk, OnOk};
+ghost use Rattle.std.specs.Prelude.{◌≡◌, ◌++◌, ◌∷◌, [], false, true, Ok, Err, if◌then◌else◌, IfOk, OnOk};
 ghost use Rattle.std.specs.List.{list_any};
 ghost use Rattle.std.specs.Str.{bytes_eq};
-ghost use Rattle.cert_reader.specs.Reading.{amounts_of, branches_of, claim_amounts, kind_of, node_amounts};
+ghost use Rattle.cert_reader.specs.Reading.{branches_of, claim_amounts, kind_of, node_amounts};
 ghost use Rattle.cert_lines.specs.Texts.{steps_of};
 ghost use Rattle.cert_lines.specs.Sums.{are_past};
 
@@ -50,7 +50,7 @@ impl Model for Draft {
 }
 
 impl Draft {
-    ghost use Rattle.cert_reader.specs.Reading.{HasTaken, after, cert_of, fact_at, finished, is_past_limits, is_repeated, last_fact, may_follow, may_stand, names_of, node_at, nothing_read, opens_after, origins_of, same_origin, step_at, take_line, take_said, take_statement, takes_steps, with_facts, with_node, with_step};
+    ghost use Rattle.cert_reader.specs.Reading.{HasTaken, after, cert_of, fact_at, finished, is_past_limits, last_fact, may_follow, may_stand, names_of, node_at, nothing_read, opens_after, origins_of, same_origin, step_at, take_line, take_said, take_statement, takes_steps, with_facts, with_node, with_step};
 
     /// Nothing read.
     pub fn new(alloc: Global) -> Result<Draft, Memory>
@@ -91,19 +91,111 @@ impl Draft {
         if !self.may_stand(&statement) {
             return Err(CertFault::Line { number });
         }
-        if self.is_repeated(&statement) {
+        match statement {
+            Statement::Version => {
+                self.stage = Stage::Property;
+                Ok(())
+            }
+            Statement::Property(id) => {
+                self.stage = Stage::Facts;
+                self.property = id;
+                Ok(())
+            }
+            Statement::Fact { name, claim } => self.take_fact(alloc, number, name, claim),
+            Statement::Step(claim) => self.take_step(alloc, number, claim),
+            Statement::Proof => {
+                self.stage = Stage::Tree;
+                Ok(())
+            }
+            Statement::Node(form) => self.take_node(alloc, number, form),
+            Statement::End => {
+                self.stage = Stage::Nothing;
+                Ok(())
+            }
+        }
+    }
+
+    /// Takes a fact that may stand there.
+    fn take_fact(
+        &mut self,
+        alloc: Global,
+        number: u32,
+        name: Name,
+        claim: Claim,
+    ) -> Result<(), CertFault>
+        requires { may_stand self.old (Statement.Fact name claim) ≡ true }
+        ensures { HasTaken result self.new (take_statement number self.old (Statement.Fact name claim)) }
+    {
+        // The sums come first, so that the name is looked up as it is added, once.
+        match claim_has_past_sums(alloc, &claim) {
+            Ok(true) => Err(self.fault_of_past_sums(number, &name)),
+            Ok(false) => self.add_fact(alloc, number, name, claim),
+            Err(Memory) => Err(CertFault::Memory),
+        }
+    }
+
+    fn fault_of_past_sums(&self, number: u32, name: &Name) -> CertFault
+        ensures { result ≡ (if list_any (bytes_eq name.now) (names_of self.now.facts)
+            then CertFault.Repeated number
+            else CertFault.Coefficient number) }
+    {
+        if self.facts.has(name) {
+            CertFault::Repeated { number }
+        } else {
+            CertFault::Coefficient { number }
+        }
+    }
+
+    fn add_fact(
+        &mut self,
+        alloc: Global,
+        number: u32,
+        name: Name,
+        claim: Claim,
+    ) -> Result<(), CertFault>
+        ensures { HasTaken result self.new (if list_any (bytes_eq name) (names_of self.old.facts)
+            then Err (CertFault.Repeated number)
+            else Ok (with_facts self.old (self.old.facts ++ fact_at number name claim ∷ []))) }
+    {
+        let fact = Fact {
+            line: number,
+            name,
+            kind: kind_of_claim(alloc, claim),
+        };
+        match self.facts.add(alloc, fact) {
+            Ok(true) => Ok(()),
+            Ok(false) => Err(CertFault::Repeated { number }),
+            Err(Memory) => Err(CertFault::Memory),
+        }
+    }
+
+    /// Takes a step that may stand there.
+    fn take_step(&mut self, alloc: Global, number: u32, claim: StepClaim) -> Result<(), CertFault>
+        requires { may_stand self.old (Statement.Step claim) ≡ true }
+        ensures { HasTaken result self.new (take_statement number self.old (Statement.Step claim)) }
+    {
+        if self.facts.has_step(&claim.origin) {
             return Err(CertFault::Repeated { number });
         }
-        match has_past_sums(alloc, &statement) {
+        match is_past(alloc, claim.factors.as_slice()) {
             Ok(true) => return Err(CertFault::Coefficient { number }),
             Ok(false) => {}
             Err(Memory) => return Err(CertFault::Memory),
         }
-        if self.is_past_limits(&statement) {
-            return Err(CertFault::CertLimit { number });
-        }
-        match self.add(alloc, number, statement) {
+        match self.add_step(alloc, number, claim) {
             Ok(()) => Ok(()),
+            Err(Memory) => Err(CertFault::Memory),
+        }
+    }
+
+    /// Takes a node that may stand there.
+    fn take_node(&mut self, alloc: Global, number: u32, form: NodeForm) -> Result<(), CertFault>
+        requires { may_stand self.old (Statement.Node form) ≡ true }
+        ensures { HasTaken result self.new (take_statement number self.old (Statement.Node form)) }
+    {
+        match node_has_past_sums(alloc, &form) {
+            Ok(true) => Err(CertFault::Coefficient { number }),
+            Ok(false) => self.add_node_within(number, form),
             Err(Memory) => Err(CertFault::Memory),
         }
     }
@@ -131,70 +223,18 @@ impl Draft {
         }
     }
 
-    fn is_repeated(&self, statement: &Statement) -> bool
-        ensures { result ≡ is_repeated self.now statement.now }
+    fn add_node_within(&mut self, number: u32, form: NodeForm) -> Result<(), CertFault>
+        ensures { HasTaken result self.new (if is_past_limits self.old (Statement.Node form)
+            then Err (CertFault.CertLimit number)
+            else Ok (after number self.old (Statement.Node form))) }
     {
-        match statement {
-            Statement::Fact { name, .. } => self.facts.has(name),
-            Statement::Step(claim) => self.facts.has_step(&claim.origin),
-            _ => false,
+        if self.tree.len() >= MAX_NODES || self.opens.count() >= MAX_DEPTH {
+            return Err(CertFault::CertLimit { number });
         }
-    }
-
-    fn is_past_limits(&self, statement: &Statement) -> bool
-        ensures { result ≡ is_past_limits self.now statement.now }
-    {
-        match statement {
-            Statement::Node(_) => self.tree.len() >= MAX_NODES || self.opens.count() >= MAX_DEPTH,
-            _ => false,
+        match self.add_node(number, form) {
+            Ok(()) => Ok(()),
+            Err(Memory) => Err(CertFault::Memory),
         }
-    }
-
-    fn add(&mut self, alloc: Global, number: u32, statement: Statement) -> Result<(), Memory>
-        requires stands { may_stand self.old statement ≡ true }
-        requires fresh { is_repeated self.old statement ≡ false }
-        ensures { OnOk result (self.new ≡ after number self.old statement) }
-    {
-        match statement {
-            Statement::Version => {
-                self.stage = Stage::Property;
-                Ok(())
-            }
-            Statement::Property(id) => {
-                self.stage = Stage::Facts;
-                self.property = id;
-                Ok(())
-            }
-            Statement::Fact { name, claim } => self.add_fact(alloc, number, name, claim),
-            Statement::Step(claim) => self.add_step(alloc, number, claim),
-            Statement::Proof => {
-                self.stage = Stage::Tree;
-                Ok(())
-            }
-            Statement::Node(form) => self.add_node(number, form),
-            Statement::End => {
-                self.stage = Stage::Nothing;
-                Ok(())
-            }
-        }
-    }
-
-    fn add_fact(
-        &mut self,
-        alloc: Global,
-        number: u32,
-        name: Name,
-        claim: Claim,
-    ) -> Result<(), Memory>
-        requires { list_any (bytes_eq name) (names_of self.old.facts) ≡ false }
-        ensures { OnOk result (self.new ≡ with_facts self.old (self.old.facts ++ fact_at number name claim ∷ [])) }
-    {
-        let fact = Fact {
-            line: number,
-            name,
-            kind: kind_of_claim(alloc, claim),
-        };
-        self.facts.add(alloc, fact)
     }
 
     fn add_step(&mut self, alloc: Global, number: u32, claim: StepClaim) -> Result<(), Memory>
@@ -285,17 +325,6 @@ fn branches_of(form: &NodeForm) -> u32
 }
 
 /// Whether the absolute values of the line on one name add up past 2^63 - 1.
-fn has_past_sums(alloc: Global, statement: &Statement) -> Result<bool, Memory>
-    ensures { IfOk result (λ past. past ≡ are_past (amounts_of statement.now)) }
-{
-    match statement {
-        Statement::Fact { claim, .. } => claim_has_past_sums(alloc, claim),
-        Statement::Step(claim) => is_past(alloc, claim.factors.as_slice()),
-        Statement::Node(form) => node_has_past_sums(alloc, form),
-        _ => Ok(false),
-    }
-}
-
 fn claim_has_past_sums(alloc: Global, claim: &Claim) -> Result<bool, Memory>
     ensures { IfOk result (λ past. past ≡ are_past (claim_amounts claim.now)) }
 {

@@ -1,4 +1,4 @@
-ghost use Rattle.std.specs.Prelude.{◌≡◌, [], ◌∷◌, ◌++◌, false, true, IfOk, OnOk};
+ghost use Rattle.std.specs.Prelude.{◌≡◌, [], ◌∷◌, ◌++◌, false, true, not, if◌then◌else◌, IfOk, MatchBool, OnOk};
 ghost use Rattle.std.specs.List.{list_any};
 ghost use Rattle.std.specs.Str.{bytes_eq};
 ghost use Rattle.indexmap.specs.IndexSet.{insert_key};
@@ -72,11 +72,13 @@ impl Facts {
         }
     }
 
-    /// Puts a fact without steps behind the others.
-    pub fn add(&mut self, alloc: Global, fact: Fact) -> Result<(), Memory>
-        requires fresh { list_any (bytes_eq fact.name) (names_of self.old) ≡ false }
-        requires new { steps_of fact.kind ≡ [] }
-        ensures { OnOk result (self.new ≡ self.old ++ fact ∷ []) }
+    /// Puts a fact without steps behind the others, where none of them has its name; answers whether it did.
+    pub fn add(&mut self, alloc: Global, fact: Fact) -> Result<bool, Memory>
+        requires { steps_of fact.kind ≡ [] }
+        ensures is_new { IfOk result (λ added. added ≡ not (list_any (bytes_eq fact.name) (names_of self.old))) }
+        ensures added { IfOk result (λ added. MatchBool added
+            (self.new ≡ self.old ++ fact ∷ [])
+            (self.new ≡ self.old)) }
     {
         match put_fact(
             alloc,
@@ -85,7 +87,7 @@ impl Facts {
             &mut self.origins,
             fact,
         ) {
-            Ok(()) => Ok(()),
+            Ok(added) => Ok(added),
             Err(Memory) => {
                 *self = Facts::new(alloc);
                 Err(Memory)
@@ -123,22 +125,25 @@ fn is_bound_kind(kind: &FactKind) -> bool
     matches!(kind, FactKind::Bound { .. })
 }
 
-/// Puts a fact into the list, its name into the set of names, and empties the set of origins.
+/// Puts a fact with a new name into the list, its name into the set of names, and empties the set of origins.
 fn put_fact(
     alloc: Global,
     list: &mut Vec<Fact>,
     names: &mut IndexSet<Name>,
     origins: &mut IndexSet<Origin>,
     fact: Fact,
-) -> Result<(), Memory>
-    ensures list { OnOk result (list.new.items ≡ list.old.items ++ fact ∷ []) }
+) -> Result<bool, Memory>
+    ensures is_new { IfOk result (λ added. added ≡ not (list_any (bytes_eq fact.name) names.old.keys)) }
+    ensures list { IfOk result (λ added. list.new.items ≡ (if added then list.old.items ++ fact ∷ [] else list.old.items)) }
     ensures names { OnOk result (names.new.keys ≡ insert_key bytes_eq names.old.keys fact.name) }
-    ensures origins { OnOk result (origins.new.keys ≡ []) }
+    ensures origins { IfOk result (λ added. origins.new.keys ≡ (if added then [] else origins.old.keys)) }
 {
-    names.insert(fact.name.copy(alloc)?)?;
+    if !names.insert(fact.name.copy(alloc)?)? {
+        return Ok(false);
+    }
     list.push(fact)?;
     empty(alloc, origins);
-    Ok(())
+    Ok(true)
 }
 
 /// A set with more room than this is not kept, since emptying it takes time for all of its room.
