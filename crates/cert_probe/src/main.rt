@@ -4,7 +4,7 @@
 #![tactic(auto)]
 
 ghost use Rattle.std.specs.Prelude.{◌≤◌, ◌^◌, length};
-ghost use Rattle.cert_reader.specs.Reading.{IsAnswer, certificate_of};
+ghost use Rattle.cert_reader.specs.Grammar.{IsCertificate};
 
 use cert_reader::{Cert, CertFault, read_cert};
 use host_io::HostFiles;
@@ -17,7 +17,7 @@ use std::{env, mem};
 /// The certificate that the bytes spell, or their first fault.
 fn certificate(alloc: Global, bytes: &[u8]) -> Result<Cert, CertFault>
     requires { length bytes.now ≤ 2 ^ 26 }
-    ensures { IsAnswer result (certificate_of bytes.now) }
+    ensures { IsCertificate bytes.now result }
 {
     read_cert(alloc, bytes)
 }

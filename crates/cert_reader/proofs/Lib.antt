@@ -1,4 +1,10 @@
+mod Answered
 mod FactLists
+mod Limits
 mod LineCuts
+mod LineFaults
+mod Orders
+mod Spelled
+mod Trees
 mod Unnumbered
 mod WrittenTexts

@@ -137,13 +137,6 @@ answer_on (fault.Coefficient number) expected later is = ap (λ r. going_on r la
 answer_on (fault.CertLimit number) expected later is = ap (λ r. going_on r later) is
 answer_on fault.Memory expected later is = tt
 
-pub fault_is_answer : (f : CertFault) (b : List ℕ) → IsFault f (λ more. certificate_of (b ++ more)) → IsAnswer (Err f) (certificate_of b)
-fault_is_answer (fault.Line number) b is = ap certificate_of (sym (append-nil b)) ∙ is []
-fault_is_answer (fault.Repeated number) b is = ap certificate_of (sym (append-nil b)) ∙ is []
-fault_is_answer (fault.Coefficient number) b is = ap certificate_of (sym (append-nil b)) ∙ is []
-fault_is_answer (fault.CertLimit number) b is = ap certificate_of (sym (append-nil b)) ∙ is []
-fault_is_answer fault.Memory b is = tt
-
 pub finish_lines : (number : ℕ) (draft : DraftState) (rest : List ℕ) → behind_mark 10 rest ≡ None → (length rest == 0) ≡ false
     → read_lines number draft (lines_of rest) ≡ going_on (take_line number draft rest) (λ next. finished (number + 1) next)
 finish_lines number draft [] none some = absurd (cc)

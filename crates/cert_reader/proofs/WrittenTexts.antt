@@ -32,6 +32,7 @@ use Rattle.cert_reader.specs.declared.faults.CertFault.{CertFault}
 use Rattle.cert_reader.specs.declared.stages.Stage.{Stage}
 use Rattle.cert_reader.specs.declared.stages.Stage.TheVariants as stage
 use Rattle.cert_reader.proofs.LineCuts.{line_then}
+use Rattle.cert_reader.proofs.Spelled.{reads_spelled, spells_read}
 use Rattle.cert_reader.proofs.Unnumbered.{IsSame, same_after, same_taken, taken}
 
 -- the line of a statement is the one that is written for it
@@ -292,4 +293,6 @@ read_again law number draft (line ∷ lines) cert e reached = by (take_line numb
     by (Err fault) is e ih = absurd (cc)
 
 pub written_is_read : WrittenLineIsRead → WrittenIsRead
-written_is_read law bytes cert e = read_again law 1 nothing_read (lines_of bytes) cert e begun
+written_is_read law bytes cert spells =
+    let again = read_again law 1 nothing_read (lines_of bytes) cert (reads_spelled bytes cert spells) begun in
+    (again.0, spells_read (certificate_text cert) again.0 again.1, again.2)

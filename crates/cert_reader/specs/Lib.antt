@@ -1,3 +1,4 @@
+pub mod Grammar
 pub mod Pieces
 pub mod Reading
 pub mod Rewriting

@@ -1,5 +1,5 @@
--- Certificates that are the same but for the numbers of their lines, and what is read of a written one.
-use Rattle.std.specs.Prelude.{ℕ, List, map, Ok, ◌≡◌}
+-- Certificates that are the same but for the numbers of their lines, and what a written one spells.
+use Rattle.std.specs.Prelude.{ℕ, List, map, ◌≡◌}
 use Rattle.cert_lines.specs.Texts.{certificate_text}
 use Rattle.cert_lines.specs.declared.certificates.Cert.{Cert}
 use Rattle.cert_lines.specs.declared.certificates.Fact.{Fact}
@@ -7,7 +7,7 @@ use Rattle.cert_lines.specs.declared.certificates.FactKind.{FactKind}
 use Rattle.cert_lines.specs.declared.certificates.FactKind.TheVariants.{Flow, Trap, Bound}
 use Rattle.cert_lines.specs.declared.certificates.Node.{Node}
 use Rattle.cert_lines.specs.declared.certificates.Step.{Step}
-use Rattle.cert_reader.specs.Reading.{certificate_of}
+use Rattle.cert_reader.specs.Grammar.{Spells}
 
 -- each line has the number 0
 abbrev pub unnumbered_step : Step → Step
@@ -34,7 +34,7 @@ unnumbered_node node = record { line = 0; form = node.form }
 abbrev pub unnumbered : Cert → Cert
 unnumbered cert = record { property = cert.property; facts = map unnumbered_fact cert.facts; tree = map unnumbered_node cert.tree }
 
--- what is written of a certificate that was read is read as the same certificate, the numbers of lines aside
+-- what is written of a certificate that a file spells spells the same certificate, the numbers of lines aside
 abbrev pub WrittenIsRead : Type 0
-WrittenIsRead = (bytes : List ℕ) (cert : Cert) → certificate_of bytes ≡ Ok cert
-    → (again : Cert) × (certificate_of (certificate_text cert) ≡ Ok again) × (unnumbered again ≡ unnumbered cert)
+WrittenIsRead = (bytes : List ℕ) (cert : Cert) → Spells bytes cert
+    → (again : Cert) × Spells (certificate_text cert) again × (unnumbered again ≡ unnumbered cert)

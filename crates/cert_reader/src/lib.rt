@@ -13,7 +13,7 @@ pub use cert_lines::{
     Cert, Fact, FactKind, Factor, Multiplier, Node, NodeForm, PlaceRef, Step, Weight, write_cert,
 };
 pub use faults::CertFault;
-pub use laws::written_certificate_is_read;
+pub use laws::{certificates_have_one_answer, written_certificate_is_read};
 pub use reader::{CertReader, read_cert};
 
 #[cfg(test)]

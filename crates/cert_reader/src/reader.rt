@@ -1,5 +1,6 @@
 ghost use Rattle.std.specs.Prelude.{◌≡◌, ◌+◌, ◌-◌, ◌^◌, ◌<◌, ◌≤◌, ◌++◌, ◌∷◌, [], ℕ, List, None, Err, length, IfOk, IfErr, IfSome, IfNone, OnOk};
-ghost use Rattle.cert_reader.specs.Reading.{HasTaken, IsAnswer, certificate_of, read_lines, take_line};
+ghost use Rattle.cert_reader.specs.Grammar.{IsCertificate};
+ghost use Rattle.cert_reader.specs.Reading.{HasTaken, IsAnswer, read_lines, take_line};
 ghost use Rattle.cert_lines.specs.Words.{behind_mark, lines_of};
 
 use crate::drafts::Draft;
@@ -12,7 +13,7 @@ use wide_sums::Memory;
 /// The certificate that the bytes spell, or their first fault.
 pub fn read_cert(alloc: Global, bytes: &[u8]) -> Result<Cert, CertFault>
     requires { length bytes.now ≤ 2 ^ 26 }
-    ensures { IsAnswer result (certificate_of bytes.now) }
+    ensures { IsCertificate bytes.now result }
 {
     let mut reader = match CertReader::new(alloc) {
         Ok(reader) => reader,
@@ -49,6 +50,7 @@ impl Model for CertReader {
 }
 
 impl CertReader {
+    ghost use Rattle.cert_reader.specs.Grammar.{IsRefusal};
     ghost use Rattle.cert_reader.specs.Pieces.{IsFault, StandsFor, what_follows};
     ghost use Rattle.cert_lines.specs.Words.{behind_mark};
 
@@ -74,7 +76,7 @@ impl CertReader {
         requires { self.old.fed + length piece.now + 2 < 2 ^ 32 }
         ensures read { (b : List ℕ) → StandsFor self.old b → OnOk result (StandsFor self.new (b ++ piece.now)) }
         ensures fault { (b : List ℕ) → StandsFor self.old b
-            → IfErr result (λ fault. IsFault fault (λ more. certificate_of ((b ++ piece.now) ++ more))) }
+            → IfErr result (λ fault. IsRefusal fault (b ++ piece.now)) }
         ensures refused { IfErr result (λ fault. self.new.state ≡ Err fault) }
         ensures again { (fault : CertFault) → self.old.state ≡ Err fault → result ≡ Err fault }
         ensures fed { self.new.fed ≡ self.old.fed + length piece.now }
@@ -84,7 +86,7 @@ impl CertReader {
 
     /// The certificate that the bytes spell, or their first fault.
     pub fn finish(self) -> Result<Cert, CertFault>
-        ensures read { (b : List ℕ) → StandsFor self b → IsAnswer result (certificate_of b) }
+        ensures read { (b : List ℕ) → StandsFor self b → IsCertificate b result }
         ensures again { (fault : CertFault) → self.state ≡ Err fault → result ≡ Err fault }
     {
         let CertReader {

@@ -1,0 +1,142 @@
+-- What is read is spelled, and what is spelled is read.
+use Rattle.std.proofs.Common.{◌≡◌, ℕ, zero, suc, ◌+◌, true, false, List, [], ◌∷◌, ◌++◌, Result, Ok, Err, refl, sym, ap, subst, ◌∙◌, arith}
+use Rattle.std.specs.Prelude.{if◌then◌else◌}
+use Rattle.std.specs.List.{AllByRecursion, IsDistinct}
+use Rattle.cert_lines.specs.Statements.{line_of}
+use Rattle.cert_lines.specs.Sums.{are_past}
+use Rattle.cert_lines.specs.Words.{lines_of}
+use Rattle.cert_lines.specs.declared.certificates.Cert.{Cert}
+use Rattle.cert_lines.specs.declared.certificates.Node.{Node}
+use Rattle.cert_lines.specs.declared.statements.Line.{Line}
+use Rattle.cert_lines.specs.declared.statements.Line.TheVariants.{Passed, Faulty, Says}
+use Rattle.cert_lines.specs.declared.statements.Statement.{Statement}
+use Rattle.cert_reader.specs.Grammar.{IsSomeTree, IsTree, Spells, amounts_on, spoken, spoken_from, unless_passed}
+use Rattle.cert_reader.specs.Reading.{DraftState, after, amounts_of, cert_of, certificate_of, finished_at, going_on, is_past_limits, is_repeated, may_stand, nothing_read, read_lines, take_said, take_statement}
+use Rattle.cert_reader.specs.declared.faults.CertFault.{CertFault}
+use Rattle.cert_reader.specs.declared.faults.CertFault.TheVariants as fault
+use Rattle.cert_reader.specs.declared.stages.Stage.{Stage}
+use Rattle.cert_reader.specs.declared.stages.Stage.TheVariants as stage
+use Rattle.cert_reader.proofs.Limits.{Limited, limited_after, limited_back, limited_before}
+use Rattle.cert_reader.proofs.Orders.{Follows, Past, PastAt, follow_order, order_past, past_after, past_lines, past_nothing, whole}
+use Rattle.cert_reader.proofs.Trees.{Grown, grown_tree, tree_grown}
+use Rattle.cert_reader.proofs.Unnumbered.{IsTaken, taken}
+
+abbrev IsSmall : ℕ × Line → Type 0
+IsSmall line = are_past (amounts_on line.1) ≡ false
+
+pub nothing_limited : Limited nothing_read
+unfolding IsDistinct
+nothing_limited = record { names = tt; steps = tt; nodes = omega arith; grown = refl }
+
+-- a statement that passes the tests is taken
+pub passes : (number : ℕ) (draft : DraftState) (statement : Statement) → may_stand draft statement ≡ true → is_repeated draft statement ≡ false
+    → are_past (amounts_of statement) ≡ false → is_past_limits draft statement ≡ false → take_statement number draft statement ≡ Ok (after number draft statement)
+passes number draft statement stands fresh small within =
+    ap (λ t. if t then (if is_repeated draft statement then Err (fault.Repeated number) else if are_past (amounts_of statement) then Err (fault.Coefficient number) else if is_past_limits draft statement then Err (fault.CertLimit number) else Ok (after number draft statement)) else Err (fault.Line number)) stands
+    ∙ ap (λ t. if t then Err (fault.Repeated number) else if are_past (amounts_of statement) then Err (fault.Coefficient number) else if is_past_limits draft statement then Err (fault.CertLimit number) else Ok (after number draft statement)) fresh
+    ∙ ap (λ t. if t then Err (fault.Coefficient number) else if is_past_limits draft statement then Err (fault.CertLimit number) else Ok (after number draft statement)) small
+    ∙ ap (λ t. if t then Err (fault.CertLimit number) else Ok (after number draft statement)) within
+
+-- lines that give a certificate
+pub record AreRead (draft : DraftState) (lines : List (ℕ × Line)) (cert : Cert) : Type 0 where
+  pub last : DraftState
+  pub follows : Follows draft lines last
+  pub over : last.stage ≡ stage.Nothing
+  pub is : cert_of last ≡ cert
+  pub limited : Limited last
+  pub small : AllByRecursion IsSmall lines
+
+finished_ok : (at : Stage) (number : ℕ) (draft : DraftState) (cert : Cert) → draft.stage ≡ at → finished_at at number draft ≡ Ok cert → (draft.stage ≡ stage.Nothing) × (cert_of draft ≡ cert)
+finished_ok stage.Version number draft cert is e = absurd (cc)
+finished_ok stage.Property number draft cert is e = absurd (cc)
+finished_ok stage.Facts number draft cert is e = absurd (cc)
+finished_ok stage.Tree number draft cert is e = absurd (cc)
+finished_ok stage.End number draft cert is e = absurd (cc)
+finished_ok stage.Nothing number draft cert is e = (is, cc)
+
+read_more : (number : ℕ) (draft : DraftState) (front lines : List (ℕ × Line)) (cert : Cert) (statement : Statement) → Past draft front → Limited draft
+    → IsTaken number draft statement (after number draft statement) → AreRead (after number draft statement) lines cert → AreRead draft ((number, Says statement) ∷ lines) cert
+read_more number draft front lines cert statement past limited is read = record {
+  last = read.last;
+  follows = (statement, refl, is.stands, read.follows);
+  over = read.over;
+  is = read.is;
+  limited = read.limited;
+  small = (is.small, read.small);
+}
+
+read_ok : (lines : List (List ℕ)) (number : ℕ) (draft : DraftState) (front : List (ℕ × Line)) (cert : Cert) → Past draft front → Limited draft
+    → read_lines number draft lines ≡ Ok cert → AreRead draft (spoken_from number lines) cert
+read_ok [] number draft front cert past limited e =
+    let over = finished_ok draft.stage number draft cert refl e in
+    record { last = draft; follows = refl; over = over.0; is = over.1; limited = limited; small = tt }
+read_ok (line ∷ lines) number draft front cert past limited e = by (line_of line) e (read_ok lines (number + 1))
+  where
+    by : (said : Line) → going_on (take_said number draft said) (λ next. read_lines (number + 1) next lines) ≡ Ok cert
+        → ((draft : DraftState) (front : List (ℕ × Line)) (cert : Cert) → Past draft front → Limited draft → read_lines (number + 1) draft lines ≡ Ok cert → AreRead draft (spoken_from (number + 1) lines) cert)
+        → AreRead draft (unless_passed number said ++ spoken_from (number + 1) lines) cert
+    by Passed e later = later draft front cert past limited e
+    by Faulty e later = absurd (cc)
+    by (Says statement) e later = on (take_statement number draft statement) refl e
+      where
+        on : (r : Result DraftState CertFault) → take_statement number draft statement ≡ r → going_on r (λ next. read_lines (number + 1) next lines) ≡ Ok cert
+            → AreRead draft ((number, Says statement) ∷ spoken_from (number + 1) lines) cert
+        on (Err refusal) is e = absurd (cc)
+        on (Ok next) is e =
+            let t = taken number draft statement next is in
+            let again : IsTaken number draft statement (after number draft statement) = record { stands = t.stands; fresh = t.fresh; small = t.small; within = t.within; is = refl } in
+            read_more number draft front (spoken_from (number + 1) lines) cert statement past limited again
+            (later (after number draft statement) (front ++ (number, Says statement) ∷ []) cert (past_after number draft front statement past t.stands)
+            (limited_after number draft front statement past t.stands t.fresh t.within limited)
+            (subst (λ d. read_lines (number + 1) d lines ≡ Ok cert) (sym t.is) e))
+
+read_is : (lines : List (List ℕ)) (number : ℕ) (draft last : DraftState) (front : List (ℕ × Line)) → Past draft front → Follows draft (spoken_from number lines) last
+    → last.stage ≡ stage.Nothing → Limited last → AllByRecursion IsSmall (spoken_from number lines) → read_lines number draft lines ≡ Ok (cert_of last)
+read_is [] number draft last front past follows over limited small =
+    ap (λ s. finished_at s number draft) (ap (λ d. d.stage) (sym follows) ∙ over) ∙ ap (λ d. Ok (cert_of d)) (sym follows)
+read_is (line ∷ lines) number draft last front past follows over limited small = by (line_of line) follows small (read_is lines (number + 1))
+  where
+    by : (said : Line) → Follows draft (unless_passed number said ++ spoken_from (number + 1) lines) last → AllByRecursion IsSmall (unless_passed number said ++ spoken_from (number + 1) lines)
+        → ((draft last : DraftState) (front : List (ℕ × Line)) → Past draft front → Follows draft (spoken_from (number + 1) lines) last
+        → last.stage ≡ stage.Nothing → Limited last → AllByRecursion IsSmall (spoken_from (number + 1) lines) → read_lines (number + 1) draft lines ≡ Ok (cert_of last))
+        → going_on (take_said number draft said) (λ next. read_lines (number + 1) next lines) ≡ Ok (cert_of last)
+    by Passed follows small later = later draft last front past follows over limited small
+    by Faulty (statement, says, stands, follows) small later = absurd (cc)
+    by (Says spoken) (statement, says, stands, follows) (first, small) later =
+        let same : statement ≡ spoken = cc in
+        let now = past_after number draft front statement past stands in
+        let before = limited_before number draft front statement past stands (limited_back (spoken_from (number + 1) lines) (after number draft statement) last _ now follows limited) in
+        ap (λ s. going_on (take_statement number draft s) (λ next. read_lines (number + 1) next lines)) (sym same)
+        ∙ ap (λ r. going_on r (λ next. read_lines (number + 1) next lines))
+        (passes number draft statement stands before.fresh (subst (λ s. are_past (amounts_of s) ≡ false) (sym same) first) before.within)
+        ∙ later (after number draft statement) last (front ++ (number, Says statement) ∷ []) now follows over limited small
+
+-- the tree of all nodes is one up to the depth
+tree_of : (tree : List Node) (opens : List ℕ) → Grown 256 tree opens → opens ≡ [] → IsSomeTree tree → IsTree 256 tree
+tree_of [] opens grown none (zero, is) = absurd is
+tree_of [] opens grown none (suc depth, is) = absurd (let never : (x : Node) (xs : List Node) → [] ≡ x ∷ xs → ⊥ = λ x xs e. cc in never _ _ is.2)
+tree_of (root ∷ nodes) opens grown none some = tree_grown 256 root nodes (subst (λ w. Grown 256 (root ∷ nodes) w) none grown)
+
+closed : (lines : List (ℕ × Line)) (last : DraftState) → last.stage ≡ stage.Nothing → Past last lines → last.opens ≡ []
+closed lines last over past = (subst (λ s. PastAt s lines last.property last.facts last.tree last.opens) over past).1
+
+pub spells_read : (bytes : List ℕ) (cert : Cert) → certificate_of bytes ≡ Ok cert → Spells bytes cert
+spells_read bytes cert e =
+    let read = read_ok (lines_of bytes) 1 nothing_read [] cert past_nothing nothing_limited e in
+    let past = past_lines nothing_read read.last [] (spoken bytes) past_nothing read.follows in
+    let order = order_past read.last (spoken bytes) read.over past in
+    let limited = read.limited in
+    subst (Spells bytes) read.is (record {
+      order = order.0;
+      names = limited.names;
+      steps = limited.steps;
+      sums = read.small;
+      nodes = limited.nodes;
+      tree = tree_of read.last.tree read.last.opens limited.grown (closed (spoken bytes) read.last read.over past) order.1;
+    })
+
+pub reads_spelled : (bytes : List ℕ) (cert : Cert) → Spells bytes cert → certificate_of bytes ≡ Ok cert
+reads_spelled bytes cert is =
+    read_is (lines_of bytes) 1 nothing_read (whole cert) [] past_nothing (follow_order (spoken bytes) cert 256 is.order is.tree) refl
+    (record { names = is.names; steps = is.steps; nodes = is.nodes; grown = grown_tree 256 cert.tree is.tree })
+    is.sums
