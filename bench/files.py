@@ -8,8 +8,8 @@ PROGRAM is the built program (crates/pnml_cli/out/pnml_cli once `rt ci` or ./tru
 it), SIZE a number of MiB. The files are made in a temporary folder. One token goes round a ring of
 places; the property adds up all places as often as its file has room, and the certificate has one
 flow over all places after the other. In the other family the net is many rings of two places, and the
-certificate has a flow for each of them. Each run has to print `holds`. Beside it stands the time that
-reading the three files alone takes.
+certificate has a flow for each of them. Each run has to print `holds`. Beside it stand the time that
+`cat` takes for the three files, and that of `wc -w`, which takes one pass over their words.
 """
 import os
 import subprocess
@@ -111,11 +111,12 @@ def show(label, program, size, maker):
         total = sum(os.path.getsize(name) for name in names) / MIB
         places, flows = counted(names[0], b"<place "), counted(names[2], b"flow ")
         _, reading, _ = measured(["cat"] + names)
+        _, words, _ = measured(["wc", "-w"] + names)
         output, seconds, peak = measured([program, "check"] + names)
         if not output.startswith(b"holds\n"):
             print(f"{label} {size}: {output[:200]!r}")
             sys.exit(1)
-        print(f"{label:6s} {size // MIB:5d}  {total:6.1f}  {places:7d}  {flows:7d}  {seconds:7.2f}  {reading:7.2f}  {peak:8.0f}", flush=True)
+        print(f"{label:6s} {size // MIB:5d}  {total:6.1f}  {places:7d}  {flows:7d}  {seconds:7.2f}  {reading:7.2f}  {words:7.2f}  {peak:8.0f}", flush=True)
 
 
 def ring_texts(size):
@@ -128,7 +129,7 @@ def ring_texts(size):
 def main():
     program = os.path.abspath(sys.argv[1])
     sizes = [int(word) for word in sys.argv[2:]] or [1, 8, 64]
-    print("net      MiB  in all   places    flows  seconds  reading  peak MiB")
+    print("net      MiB  in all   places    flows  seconds      cat    wc -w  peak MiB")
     for label, maker in (("ring", ring_texts), ("pairs", pairs_texts)):
         for size in sizes:
             show(label, program, size * MIB, maker)

@@ -5,7 +5,8 @@ mod Sums
 mod Slacks
 mod Residues
 mod Order
-pub mod Marks
+pub mod MetNames
+mod PlaceNumbers
 mod ByPlace
 mod FirstFailing
 mod Settled

@@ -5,4 +5,5 @@ pub mod Closing
 pub mod Judging
 pub mod Examining
 pub mod Incidences
+pub mod Numbered
 pub mod Searching

@@ -4,7 +4,7 @@ ghost use Rattle.plain_judge.specs.Closing.{AddsSlack, AreResiduals, IsConstantI
 ghost use Rattle.plain_judge.specs.Residuals.{AreInRange};
 ghost use Rattle.plain_model.specs.Forms.{flow_slack, flow_slack_of, hypothesis_slack, multiplier_of, slack_of};
 ghost use Rattle.plain_model.specs.Obligations.{close_check, close_sums, is_signed_well, parts, residual_constant};
-ghost use Rattle.plain_model.specs.Plain.{AreDistinct, flow_names, place_ids};
+ghost use Rattle.plain_model.specs.Plain.{AreDistinct, place_ids};
 ghost use Rattle.plain_model.specs.Sums.{sum_of};
 ghost use Rattle.std.specs.List.{list_all, list_any};
 ghost use Rattle.plain_model.specs.Sums.{is_wide};
@@ -12,11 +12,12 @@ ghost use Rattle.wide_sums.specs.Total.{zero_total};
 
 use crate::constants::constant_of_hypothesis;
 use crate::faults::{JudgeFault, NotYet, SumFault};
+use crate::numbered::{NumberedFlow, NumberedFlows};
 use crate::residuals::{add_multiple, add_part, empty_coefficients, empty_sums, is_none_positive};
 use crate::settling::settle_weights;
 use crate::spreads::{spread_hypothesis, spread_on_zeros};
 use name_tables::Name;
-use plain_model::{Certificate, Check, Flow, Multiplier, PlainNet, Property};
+use plain_model::{Certificate, Check, Multiplier, PlainNet, Property};
 use plain_rows::Numbers;
 use std::alloc::Global;
 use wide_sums::{Sum, Wide};
@@ -25,69 +26,51 @@ use wide_sums::{Sum, Wide};
 /// coefficients are 0 before and afterwards.
 fn add_flow(
     net: &PlainNet,
-    ids: &Numbers<'_>,
-    flow: &Flow,
+    flow: &NumberedFlow<'_>,
     multiplier: i64,
     coefficients: &mut [i64],
     sums: &mut [Sum],
 ) -> Result<i128, SumFault>
-    requires places { ids.now ≡ place_ids net.now }
-    requires distinct { AreDistinct ids.now }
-    requires zeros { coefficients.old ≡ replicate (length ids.now) (pos 0) }
-    requires sums { length sums.old ≡ length ids.now }
-    requires in_range { AreInRange (length ids.now) sums.old }
-    ensures zeros { OnOk result (coefficients.new ≡ replicate (length ids.now) (pos 0)) }
-    ensures adds { IfOk result (AddsSlack ids.now multiplier (flow_slack net.now flow.now) sums.old sums.new) }
-    ensures wide { result ≡ Err SumFault.Wide → IsSlackWide ids.now multiplier (flow_slack net.now flow.now) sums.old }
+    requires places { flow.now.ids ≡ place_ids net.now }
+    requires zeros { coefficients.old ≡ replicate (length flow.now.ids) (pos 0) }
+    requires sums { length sums.old ≡ length flow.now.ids }
+    requires in_range { AreInRange (length flow.now.ids) sums.old }
+    ensures zeros { OnOk result (coefficients.new ≡ replicate (length flow.now.ids) (pos 0)) }
+    ensures adds { IfOk result (AddsSlack flow.now.ids multiplier (flow_slack net.now flow.now.flow) sums.old sums.new) }
+    ensures wide { result ≡ Err SumFault.Wide → IsSlackWide flow.now.ids multiplier (flow_slack net.now flow.now.flow) sums.old }
 {
-    let weights = flow.weights.as_slice();
-    match spread_on_zeros(ids, weights, coefficients) {
+    match spread_on_zeros(flow, coefficients) {
         Ok(()) => {}
         Err(NotYet) => return Err(SumFault::NotYet),
     }
-    match settle_weights(
-        ids,
-        weights,
-        net.places.as_slice(),
-        multiplier,
-        coefficients,
-        sums,
-    ) {
+    match settle_weights(flow, net.places.as_slice(), multiplier, coefficients, sums) {
         Ok(constant) => Ok(constant),
-        Err(fault) => Err(fault),
+        Err(Wide) => Err(SumFault::Wide),
     }
 }
 
 /// Adds a multiple of the slack form of the flow with this name.
 fn add_named(
     net: &PlainNet,
-    ids: &Numbers<'_>,
-    flows: &[Flow],
-    names: &Numbers<'_>,
+    flows: &NumberedFlows<'_>,
     name: &Name,
     multiplier: i64,
     coefficients: &mut [i64],
     sums: &mut [Sum],
 ) -> Result<i128, SumFault>
-    requires places { ids.now ≡ place_ids net.now }
-    requires distinct { AreDistinct ids.now }
-    requires zeros { coefficients.old ≡ replicate (length ids.now) (pos 0) }
-    requires sums { length sums.old ≡ length ids.now }
-    requires in_range { AreInRange (length ids.now) sums.old }
-    requires names { names.now ≡ map (λ flow. flow.name) flows.now }
-    ensures zeros { OnOk result (coefficients.new ≡ replicate (length ids.now) (pos 0)) }
-    ensures adds { IfOk result (AddsSlack ids.now multiplier (flow_slack_of net.now flows.now name.now) sums.old sums.new) }
-    ensures wide { result ≡ Err SumFault.Wide → IsSlackWide ids.now multiplier (flow_slack_of net.now flows.now name.now) sums.old }
+    requires places { flows.now.ids ≡ place_ids net.now }
+    requires zeros { coefficients.old ≡ replicate (length flows.now.ids) (pos 0) }
+    requires sums { length sums.old ≡ length flows.now.ids }
+    requires in_range { AreInRange (length flows.now.ids) sums.old }
+    ensures zeros { OnOk result (coefficients.new ≡ replicate (length flows.now.ids) (pos 0)) }
+    ensures adds { IfOk result (AddsSlack flows.now.ids multiplier (flow_slack_of net.now flows.now.flows name.now) sums.old sums.new) }
+    ensures wide { result ≡ Err SumFault.Wide → IsSlackWide flows.now.ids multiplier (flow_slack_of net.now flows.now.flows name.now) sums.old }
 {
-    match names.find(name.bytes()) {
-        Some(number) => add_flow(
-            net,
-            ids,
-            &flows[number as usize],
-            multiplier,
-            coefficients,
-            sums,
-        ),
+    match flows.names().find(name.bytes()) {
+        Some(number) => {
+            let flow = flows.flow(number);
+            add_flow(net, &flow, multiplier, coefficients, sums)
+        }
         None => Err(SumFault::NotYet),
     }
 }
@@ -122,37 +105,31 @@ fn add_hypothesis(
 /// Adds a multiple of the slack form that a summand multiplies, and gives the form's constant.
 fn add_slack(
     net: &PlainNet,
-    ids: &Numbers<'_>,
     property: &Property,
-    flows: &[Flow],
-    names: &Numbers<'_>,
+    flows: &NumberedFlows<'_>,
     multiplier: &Multiplier,
     coefficients: &mut [i64],
     sums: &mut [Sum],
 ) -> Result<i128, SumFault>
-    requires places { ids.now ≡ place_ids net.now }
-    requires distinct { AreDistinct ids.now }
-    requires zeros { coefficients.old ≡ replicate (length ids.now) (pos 0) }
-    requires sums { length sums.old ≡ length ids.now }
-    requires in_range { AreInRange (length ids.now) sums.old }
-    requires names { names.now ≡ map (λ flow. flow.name) flows.now }
-    ensures zeros { OnOk result (coefficients.new ≡ replicate (length ids.now) (pos 0)) }
-    ensures adds { IfOk result (AddsSlack ids.now (multiplier_of multiplier.now) (slack_of net.now property.now flows.now multiplier.now) sums.old sums.new) }
-    ensures wide { result ≡ Err SumFault.Wide → IsSlackWide ids.now (multiplier_of multiplier.now) (slack_of net.now property.now flows.now multiplier.now) sums.old }
+    requires places { flows.now.ids ≡ place_ids net.now }
+    requires zeros { coefficients.old ≡ replicate (length flows.now.ids) (pos 0) }
+    requires sums { length sums.old ≡ length flows.now.ids }
+    requires in_range { AreInRange (length flows.now.ids) sums.old }
+    ensures zeros { OnOk result (coefficients.new ≡ replicate (length flows.now.ids) (pos 0)) }
+    ensures adds { IfOk result (AddsSlack flows.now.ids (multiplier_of multiplier.now) (slack_of net.now property.now flows.now.flows multiplier.now) sums.old sums.new) }
+    ensures wide { result ≡ Err SumFault.Wide → IsSlackWide flows.now.ids (multiplier_of multiplier.now) (slack_of net.now property.now flows.now.flows multiplier.now) sums.old }
 {
     match multiplier {
         Multiplier::Fact(factor) => add_named(
             net,
-            ids,
             flows,
-            names,
             &factor.fact,
             factor.value,
             coefficients,
             sums,
         ),
         Multiplier::Hypothesis { value, .. } => add_hypothesis(
-            ids,
+            flows.ids(),
             property,
             *value,
             coefficients,
@@ -184,35 +161,24 @@ fn has_right_sign(multiplier: &Multiplier) -> bool
 /// Adds up the summands: the residual's coefficients into the sums, and its constant.
 fn add_up(
     net: &PlainNet,
-    ids: &Numbers<'_>,
     property: &Property,
     certificate: &Certificate,
-    names: &Numbers<'_>,
+    flows: &NumberedFlows<'_>,
     coefficients: &mut [i64],
     sums: &mut [Sum],
 ) -> Result<i128, SumFault>
-    requires places { ids.now ≡ place_ids net.now }
-    requires distinct { AreDistinct ids.now }
-    requires zeros { coefficients.old ≡ replicate (length ids.now) (pos 0) }
-    requires names { names.now ≡ flow_names certificate.now }
-    requires empty { sums.old ≡ replicate (length ids.now) zero_total }
-    ensures sums { OnOk result (AreResiduals ids.now (parts net.now property.now certificate.now) sums.new) }
+    requires places { flows.now.ids ≡ place_ids net.now }
+    requires zeros { coefficients.old ≡ replicate (length flows.now.ids) (pos 0) }
+    requires flows { flows.now.flows ≡ certificate.now.flows }
+    requires empty { sums.old ≡ replicate (length flows.now.ids) zero_total }
+    ensures sums { OnOk result (AreResiduals flows.now.ids (parts net.now property.now certificate.now) sums.new) }
     ensures value { IfOk result (λ value. value ≡ sum_of (residual_constant (parts net.now property.now certificate.now))) }
     ensures fits { OnOk result (IsConstantInRange (parts net.now property.now certificate.now)) }
     ensures wide { result ≡ Err SumFault.Wide → list_any is_wide (close_sums net.now (parts net.now property.now certificate.now)) ≡ true }
 {
     let mut total = Sum::zero();
     for multiplier in certificate.close.as_slice() {
-        let constant = match add_slack(
-            net,
-            ids,
-            property,
-            certificate.flows.as_slice(),
-            names,
-            multiplier,
-            coefficients,
-            sums,
-        ) {
+        let constant = match add_slack(net, property, flows, multiplier, coefficients, sums) {
             Ok(constant) => constant,
             Err(fault) => return Err(fault),
         };
@@ -245,21 +211,19 @@ fn have_right_signs(multipliers: &[Multiplier]) -> bool
 /// Whether the `close` line, whose signs are right, refutes the negated invariant.
 fn check_sums(
     net: &PlainNet,
-    ids: &Numbers<'_>,
     property: &Property,
     certificate: &Certificate,
-    names: &Numbers<'_>,
+    flows: &NumberedFlows<'_>,
     coefficients: &mut [i64],
     sums: &mut [Sum],
 ) -> Result<Check, JudgeFault>
-    requires places { ids.now ≡ place_ids net.now }
-    requires distinct { AreDistinct ids.now }
-    requires zeros { coefficients.old ≡ replicate (length ids.now) (pos 0) }
-    requires names { names.now ≡ flow_names certificate.now }
-    requires empty { sums.old ≡ replicate (length ids.now) zero_total }
+    requires places { flows.now.ids ≡ place_ids net.now }
+    requires zeros { coefficients.old ≡ replicate (length flows.now.ids) (pos 0) }
+    requires flows { flows.now.flows ≡ certificate.now.flows }
+    requires empty { sums.old ≡ replicate (length flows.now.ids) zero_total }
     ensures { IfOk result (λ check. check ≡ sums_check net.now property.now certificate.now) }
 {
-    match add_up(net, ids, property, certificate, names, coefficients, sums) {
+    match add_up(net, property, certificate, flows, coefficients, sums) {
         Ok(constant) => Ok(refutes(sums, constant)),
         Err(SumFault::Wide) => Ok(Check::Wide),
         Err(SumFault::NotYet) => Err(JudgeFault::NotYet),
@@ -270,28 +234,25 @@ fn check_sums(
 pub fn check_close(
     alloc: Global,
     net: &PlainNet,
-    ids: &Numbers<'_>,
     property: &Property,
     certificate: &Certificate,
-    names: &Numbers<'_>,
+    flows: &NumberedFlows<'_>,
 ) -> Result<Check, JudgeFault>
-    requires places { ids.now ≡ place_ids net.now }
-    requires distinct { AreDistinct ids.now }
-    requires names { names.now ≡ flow_names certificate.now }
+    requires places { flows.now.ids ≡ place_ids net.now }
+    requires flows { flows.now.flows ≡ certificate.now.flows }
     ensures { IfOk result (λ check. check ≡ close_check net.now property.now certificate.now) }
 {
     if !have_right_signs(certificate.close.as_slice()) {
         return Ok(Check::False);
     }
-    let places = ids.count() as usize;
+    let places = flows.ids().count() as usize;
     let mut coefficients = empty_coefficients(alloc, places)?;
     let mut sums = empty_sums(alloc, places)?;
     let check = check_sums(
         net,
-        ids,
         property,
         certificate,
-        names,
+        flows,
         &mut coefficients,
         &mut sums,
     )?;

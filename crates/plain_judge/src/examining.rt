@@ -1,21 +1,15 @@
 //! Whether a certificate is of the first grammar.
-ghost use Rattle.std.specs.Prelude.{◌≡◌, ◌<◌, ◌^◌, map, length, unsigned_abs, vec_len, IfOk, OnOk, All, AllPairs};
+ghost use Rattle.std.specs.Prelude.{◌≡◌, ◌<◌, ◌^◌, map, length, unsigned_abs, OnOk, All, AllPairs};
 ghost use Rattle.std.specs.Bool.{OnTrue};
-ghost use Rattle.plain_model.specs.Plain.{AreDistinct, IsPlainCertificate, IsPlainFlow, IsPlainMultiplier, IsPlainWeight, MultiplyApart, flow_names, place_ids};
+ghost use Rattle.plain_model.specs.Plain.{AreDistinct, IsPlainCertificate, IsPlainFlow, IsPlainMultiplier, IsPlainWeight, MultiplyApart, place_ids};
 
 use crate::faults::JudgeFault;
+use crate::marks::no_marks;
+use crate::numbered::{NumberedFlow, NumberedFlows};
 use name_tables::is_id;
-use plain_model::{Certificate, Flow, Multiplier, PlainNet, Property, Weight};
+use plain_model::{Certificate, Multiplier, PlainNet, Property};
 use plain_rows::Numbers;
 use std::alloc::Global;
-use wide_sums::Memory;
-
-/// A mark for each of so many things, none of them set.
-fn no_marks(alloc: Global, count: usize) -> Result<Vec<u32>, Memory>
-    ensures { IfOk result (λ marks. vec_len marks ≡ count) }
-{
-    Ok(vec![in alloc; 0u32; count]?)
-}
 
 /// Whether a value of a certificate is in range.
 fn is_in_range(value: i64) -> bool
@@ -24,21 +18,20 @@ fn is_in_range(value: i64) -> bool
     value != i64::MIN
 }
 
-/// Whether the weights are in range and on places of the net, each place at most once.
+/// Whether the weights of the flow are in range, with each place at most once.
 ///
 /// A place with this mark already was met among these weights; the marks of earlier ones are lower.
-fn are_weights(places: &Numbers<'_>, weights: &[Weight], marks: &mut [u32], mark: u32) -> bool
-    requires { length marks.old ≡ length places.now }
+fn are_weights(flow: &NumberedFlow<'_>, marks: &mut [u32], mark: u32) -> bool
+    requires { length marks.old ≡ length flow.now.ids }
     ensures long { length marks.new ≡ length marks.old }
-    ensures plain { OnTrue result (All (IsPlainWeight places.now) weights.now) }
-    ensures once { OnTrue result (AreDistinct (map (λ weight. weight.place) weights.now)) }
+    ensures plain { OnTrue result (All (IsPlainWeight flow.now.ids) flow.now.flow.weights) }
+    ensures once { OnTrue result (AreDistinct (map (λ weight. weight.place) flow.now.flow.weights)) }
 {
-    for weight in weights {
-        let place = match places.find(weight.place.bytes()) {
-            Some(place) => place as usize,
-            None => return false,
-        };
-        if marks[place] == mark || !is_in_range(weight.value) {
+    let weights = flow.weights();
+    let places = flow.places();
+    for at in 0..weights.len() {
+        let place = places[at] as usize;
+        if marks[place] == mark || !is_in_range(weights[at].value) {
             return false;
         }
         marks[place] = mark;
@@ -47,26 +40,22 @@ fn are_weights(places: &Numbers<'_>, weights: &[Weight], marks: &mut [u32], mark
 }
 
 /// Whether the flow has a name and coefficients in form.
-fn is_flow(places: &Numbers<'_>, flow: &Flow, marks: &mut [u32], mark: u32) -> bool
-    requires { length marks.old ≡ length places.now }
+fn is_flow(flow: &NumberedFlow<'_>, marks: &mut [u32], mark: u32) -> bool
+    requires { length marks.old ≡ length flow.now.ids }
     ensures long { length marks.new ≡ length marks.old }
-    ensures plain { OnTrue result (IsPlainFlow places.now flow.now) }
+    ensures plain { OnTrue result (IsPlainFlow flow.now.ids flow.now.flow) }
 {
-    is_id(flow.name.bytes()) && are_weights(places, flow.weights.as_slice(), marks, mark)
+    is_id(flow.name()) && are_weights(flow, marks, mark)
 }
 
 /// Whether all flows are in form.
-fn are_flows(places: &Numbers<'_>, flows: &[Flow], marks: &mut [u32]) -> bool
-    requires { length marks.old ≡ length places.now }
-    ensures { OnTrue result (All (IsPlainFlow places.now) flows.now) }
+fn are_flows(flows: &NumberedFlows<'_>, marks: &mut [u32]) -> bool
+    requires { length marks.old ≡ length flows.now.ids }
+    ensures { OnTrue result (All (IsPlainFlow flows.now.ids) flows.now.flows) }
 {
-    let mut mark = 0u32;
-    for flow in flows {
-        if mark == u32::MAX {
-            return false;
-        }
-        mark += 1;
-        if !is_flow(places, flow, marks, mark) {
+    for number in 0..flows.count() {
+        let flow = flows.flow(number);
+        if !is_flow(&flow, marks, number + 1) {
             return false;
         }
     }
@@ -103,27 +92,27 @@ fn are_multipliers(names: &Numbers<'_>, close: &[Multiplier], marks: &mut [u32])
     true
 }
 
-/// Examines the certificate for the property; `NotYet` comes where it isn't of the first grammar.
+/// Examines the certificate for the property, with its flows numbered; `NotYet` comes where it
+/// isn't of the first grammar.
 pub fn examine(
     alloc: Global,
     net: &PlainNet,
-    places: &Numbers<'_>,
     property: &Property,
     certificate: &Certificate,
-    names: &Numbers<'_>,
+    flows: &NumberedFlows<'_>,
 ) -> Result<(), JudgeFault>
-    requires places { places.now ≡ place_ids net.now }
-    requires names { names.now ≡ flow_names certificate.now }
-    requires distinct { AreDistinct names.now }
+    requires places { flows.now.ids ≡ place_ids net.now }
+    requires flows { flows.now.flows ≡ certificate.now.flows }
     ensures { OnOk result (IsPlainCertificate net.now property.now certificate.now) }
 {
     if certificate.property.bytes() != property.id.bytes() {
         return Err(JudgeFault::NotYet);
     }
-    let mut marks = no_marks(alloc, places.count() as usize)?;
-    if !are_flows(places, certificate.flows.as_slice(), &mut marks) {
+    let mut marks = no_marks(alloc, net.places.len() as usize)?;
+    if !are_flows(flows, &mut marks) {
         return Err(JudgeFault::NotYet);
     }
+    let names = flows.names();
     let mut facts = no_marks(alloc, names.count() as usize)?;
     if !are_multipliers(names, certificate.close.as_slice(), &mut facts) {
         return Err(JudgeFault::NotYet);

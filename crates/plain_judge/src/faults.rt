@@ -1,3 +1,4 @@
+use std::alloc::AllocError;
 use thiserror::Error;
 use wide_sums::Memory;
 
@@ -24,6 +25,12 @@ impl From<NotYet> for JudgeFault {
 
 impl From<Memory> for JudgeFault {
     fn from(_refused: Memory) -> JudgeFault {
+        JudgeFault::Memory
+    }
+}
+
+impl From<AllocError> for JudgeFault {
+    fn from(_refused: AllocError) -> JudgeFault {
         JudgeFault::Memory
     }
 }

@@ -1,16 +1,16 @@
 //! The judgement of a whole certificate.
 ghost use Rattle.std.specs.Prelude.{◌≡◌, IfOk, OnOk};
 ghost use Rattle.plain_model.specs.Obligations.{judgement};
-ghost use Rattle.plain_model.specs.Plain.{AreDistinct, IsPlainCertificate, IsPlainNet, flow_names, place_ids};
+ghost use Rattle.plain_model.specs.Plain.{IsPlainCertificate, IsPlainNet, place_ids};
 ghost use Rattle.plain_rows.specs.Rows.{AreRowsOf};
 
 use crate::closes::check_close;
 use crate::examining::examine;
 use crate::faults::JudgeFault;
 use crate::flows::judge_flows;
-use crate::naming::names_of;
+use crate::numbered::NumberedFlows;
 use plain_model::{Certificate, Check, Judged, PlainNet, Property, Spot};
-use plain_rows::{Numbers, PlainRows};
+use plain_rows::PlainRows;
 use pt_net::PtNet;
 use std::alloc::Global;
 
@@ -18,25 +18,23 @@ use std::alloc::Global;
 fn judge_all(
     alloc: Global,
     net: &PlainNet,
-    ids: &Numbers<'_>,
     system: &PtNet,
     property: &Property,
     certificate: &Certificate,
-    names: &Numbers<'_>,
+    flows: &NumberedFlows<'_>,
 ) -> Result<Judged, JudgeFault>
-    requires places { ids.now ≡ place_ids net.now }
-    requires distinct { AreDistinct ids.now }
+    requires places { flows.now.ids ≡ place_ids net.now }
     requires rows { AreRowsOf net.now system.now }
-    requires names { names.now ≡ flow_names certificate.now }
+    requires flows { flows.now.flows ≡ certificate.now.flows }
     ensures { IfOk result (λ judged. judged ≡ judgement net.now property.now certificate.now) }
 {
-    match judge_flows(alloc, net, ids, system, certificate, names) {
+    match judge_flows(alloc, net, flows, system) {
         Ok(Judged::Shown) => {}
         Ok(Judged::NotShown(spot)) => return Ok(Judged::NotShown(spot)),
         Ok(Judged::Range(spot)) => return Ok(Judged::Range(spot)),
         Err(fault) => return Err(fault),
     }
-    match check_close(alloc, net, ids, property, certificate, names) {
+    match check_close(alloc, net, property, certificate, flows) {
         Ok(Check::True) => Ok(Judged::Shown),
         Ok(Check::False) => Ok(Judged::NotShown(Spot::Close)),
         Ok(Check::Wide) => Ok(Judged::Range(Spot::Close)),
@@ -62,8 +60,7 @@ pub fn judge(
     ensures plain { OnOk result (IsPlainCertificate net.now property.now certificate.now) }
     ensures judged { IfOk result (λ judged. judged ≡ judgement net.now property.now certificate.now) }
 {
-    let ids = &rows.places;
-    let names = names_of(alloc, certificate.flows.as_slice())?;
-    examine(alloc, net, ids, property, certificate, &names)?;
-    judge_all(alloc, net, ids, &rows.net, property, certificate, &names)
+    let flows = NumberedFlows::new(alloc, &rows.places, certificate.flows.as_slice())?;
+    examine(alloc, net, property, certificate, &flows)?;
+    judge_all(alloc, net, &rows.net, property, certificate, &flows)
 }

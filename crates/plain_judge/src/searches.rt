@@ -2,19 +2,17 @@
 //!
 //! Only the transitions at the flow's places are tested, each once: the others keep every sum in
 //! which these places alone have coefficients.
-ghost use Rattle.std.specs.Prelude.{◌≡◌, ◌<◌, ◌≤◌, ℕ, length, map, true, All, IfOk};
-ghost use Rattle.plain_judge.specs.Incidences.{AreByPlace, AreIncidences};
+ghost use Rattle.std.specs.Prelude.{◌≡◌, ◌<◌, ◌≤◌, ℕ, length, map, true, All};
+ghost use Rattle.plain_judge.specs.Incidences.{AreIndexed};
 ghost use Rattle.plain_judge.specs.Judging.{instance_check};
 ghost use Rattle.plain_judge.specs.Searching.{IsFirstFailing, IsFirstMarked, KeepAtPlaces, keeps};
 ghost use Rattle.plain_model.specs.Forms.{weight_on};
-ghost use Rattle.plain_model.specs.Plain.{AreDistinct};
 ghost use Rattle.pt_net.specs.Systems.{instance_at};
 
-use crate::faults::NotYet;
-use crate::incidences::{Incidence, at_place};
+use crate::incidences::{Incidence, Incidences, at_place};
+use crate::numbered::NumberedFlow;
 use crate::steps::check_step;
-use plain_model::{Check, Weight};
-use plain_rows::Numbers;
+use plain_model::Check;
 use pt_net::{PtNet, Side};
 
 /// What firing the transition does to the weighted sum.
@@ -97,62 +95,53 @@ fn visit_all(
     least
 }
 
-/// Visits the transitions at the places of the weights: the least number of one that failed, or
+/// Visits the transitions at the places of the flow: the least number of one that failed, or
 /// the number of transitions where none did.
 fn visit_places(
-    ids: &Numbers<'_>,
+    flow: &NumberedFlow<'_>,
     system: &PtNet,
-    incidences: &[Incidence],
-    weights: &[Weight],
+    incidences: &Incidences,
     coefficients: &[i64],
     marks: &mut [u32],
     mark: u32,
-) -> Result<u32, NotYet>
-    requires distinct { AreDistinct ids.now }
+) -> u32
+    requires ids { length flow.now.ids ≡ length system.now.initial }
     requires long { length coefficients.now ≡ length system.now.initial }
-    requires listed { AreIncidences system.now incidences.now }
-    requires sorted { AreByPlace incidences.now }
+    requires index { AreIndexed system.now incidences.now }
     requires marks { length marks.old ≡ length system.now.instances }
     requires low { All (λ other. other < mark) marks.old }
     ensures low { All (λ other. other ≤ mark) marks.new }
-    ensures first { IfOk result (IsFirstMarked coefficients.now system.now marks.new mark) }
-    ensures tested { IfOk result (KeepAtPlaces ids.now weights.now incidences.now coefficients.now system.now) }
+    ensures first { IsFirstMarked coefficients.now system.now marks.new mark result }
+    ensures tested { KeepAtPlaces flow.now.ids flow.now.flow.weights incidences.now.list.items coefficients.now system.now result }
 {
     let mut least = system.instances();
-    for weight in weights {
-        let place = match ids.find(weight.place.bytes()) {
-            Some(place) => place,
-            None => return Err(NotYet),
-        };
-        let here = at_place(incidences, place);
+    let places = flow.places();
+    for at in 0..places.len() {
+        let here = at_place(system, incidences, places[at]);
         least = visit_all(system, coefficients, here, marks, mark, least);
     }
-    Ok(least)
+    least
 }
 
-/// The first transition that doesn't keep the sum with the coefficients of the weights, or the
+/// The first transition that doesn't keep the sum with the coefficients of the flow, or the
 /// number of transitions where all keep it.
 ///
-/// `incidences` are those of the net by rising place. The marks are below `mark`, and no greater
-/// than it afterwards.
+/// The marks are below `mark`, and no greater than it afterwards.
 pub fn first_failing(
-    ids: &Numbers<'_>,
+    flow: &NumberedFlow<'_>,
     system: &PtNet,
-    incidences: &[Incidence],
-    weights: &[Weight],
+    incidences: &Incidences,
     coefficients: &[i64],
     marks: &mut [u32],
     mark: u32,
-) -> Result<u32, NotYet>
-    requires distinct { AreDistinct ids.now }
-    requires long { length ids.now ≡ length system.now.initial }
-    requires listed { AreIncidences system.now incidences.now }
-    requires sorted { AreByPlace incidences.now }
-    requires spread { coefficients.now ≡ map (weight_on weights.now) ids.now }
+) -> u32
+    requires ids { length flow.now.ids ≡ length system.now.initial }
+    requires index { AreIndexed system.now incidences.now }
+    requires spread { coefficients.now ≡ map (weight_on flow.now.flow.weights) flow.now.ids }
     requires marks { length marks.old ≡ length system.now.instances }
     requires low { All (λ other. other < mark) marks.old }
     ensures low { All (λ other. other ≤ mark) marks.new }
-    ensures first { IfOk result (IsFirstFailing coefficients.now system.now) }
+    ensures first { IsFirstFailing coefficients.now system.now result }
 {
-    visit_places(ids, system, incidences, weights, coefficients, marks, mark)
+    visit_places(flow, system, incidences, coefficients, marks, mark)
 }

@@ -5,8 +5,9 @@ ghost use Rattle.plain_model.specs.Forms.{hypothesis_slack, times_in, times_list
 ghost use Rattle.plain_model.specs.Plain.{AreDistinct};
 
 use crate::faults::NotYet;
+use crate::numbered::NumberedFlow;
 use name_tables::Name;
-use plain_model::{Count, Property, Weight};
+use plain_model::{Count, Property};
 use plain_rows::Numbers;
 
 /// Adds a value to the coefficient of one place.
@@ -23,21 +24,15 @@ fn raise(coefficients: &mut [i64], place: usize, value: i64) -> Result<(), NotYe
     }
 }
 
-/// Adds to the coefficient of each place what the weights say of it.
-fn add_weights(
-    ids: &Numbers<'_>,
-    weights: &[Weight],
-    coefficients: &mut [i64],
-) -> Result<(), NotYet>
-    requires distinct { AreDistinct ids.now }
-    requires long { length coefficients.old ≡ length ids.now }
-    ensures { OnOk result (Raises ids.now (weight_on weights.now) coefficients.old coefficients.new) }
+/// Adds to the coefficient of each place what the weights of the flow say of it.
+fn add_weights(flow: &NumberedFlow<'_>, coefficients: &mut [i64]) -> Result<(), NotYet>
+    requires { length coefficients.old ≡ length flow.now.ids }
+    ensures { OnOk result (Raises flow.now.ids (weight_on flow.now.flow.weights) coefficients.old coefficients.new) }
 {
-    for weight in weights {
-        match ids.find(weight.place.bytes()) {
-            Some(place) => raise(coefficients, place as usize, weight.value)?,
-            None => return Err(NotYet),
-        }
+    let weights = flow.weights();
+    let places = flow.places();
+    for at in 0..weights.len() {
+        raise(coefficients, places[at] as usize, weights[at].value)?;
     }
     Ok(())
 }
@@ -82,37 +77,24 @@ fn add_count(
     }
 }
 
-/// Adds the weights to coefficients that all are 0.
-pub fn spread_on_zeros(
-    ids: &Numbers<'_>,
-    weights: &[Weight],
-    coefficients: &mut [i64],
-) -> Result<(), NotYet>
-    requires distinct { AreDistinct ids.now }
-    requires zeros { coefficients.old ≡ replicate (length ids.now) (pos 0) }
-    ensures { OnOk result (coefficients.new ≡ map (weight_on weights.now) ids.now) }
+/// Adds the weights of the flow to coefficients that all are 0.
+pub fn spread_on_zeros(flow: &NumberedFlow<'_>, coefficients: &mut [i64]) -> Result<(), NotYet>
+    requires { coefficients.old ≡ replicate (length flow.now.ids) (pos 0) }
+    ensures { OnOk result (coefficients.new ≡ map (weight_on flow.now.flow.weights) flow.now.ids) }
 {
-    add_weights(ids, weights, coefficients)?;
+    add_weights(flow, coefficients)?;
     Ok(())
 }
 
-/// Writes 0 at the places of the weights, so that all coefficients are 0 again.
-pub fn clear_weights(
-    ids: &Numbers<'_>,
-    weights: &[Weight],
-    coefficients: &mut [i64],
-) -> Result<(), NotYet>
-    requires distinct { AreDistinct ids.now }
-    requires spread { coefficients.old ≡ map (weight_on weights.now) ids.now }
-    ensures { OnOk result (coefficients.new ≡ replicate (length ids.now) (pos 0)) }
+/// Writes 0 at the places of the flow, so that all coefficients are 0 again.
+pub fn clear_weights(flow: &NumberedFlow<'_>, coefficients: &mut [i64])
+    requires { coefficients.old ≡ map (weight_on flow.now.flow.weights) flow.now.ids }
+    ensures { coefficients.new ≡ replicate (length flow.now.ids) (pos 0) }
 {
-    for weight in weights {
-        match ids.find(weight.place.bytes()) {
-            Some(place) => coefficients[place as usize] = 0,
-            None => return Err(NotYet),
-        }
+    let places = flow.places();
+    for at in 0..places.len() {
+        coefficients[places[at] as usize] = 0;
     }
-    Ok(())
 }
 
 /// Writes the coefficients of the negated invariant, in place of what stood there.

@@ -2,7 +2,7 @@ ghost use Rattle.std.specs.Prelude.{◌≡◌, ◌≤◌, IfOk, length};
 ghost use Rattle.std.specs.Bool.{OnTrue};
 ghost use Rattle.plain_text.specs.Certificates.{certificate_text};
 
-use crate::certificate_writer::put_certificate;
+use crate::certificate_pieces::put_certificate;
 use crate::comparison::{Comparison, Differs};
 use crate::faults::TextFault;
 use crate::source::{Source, id_of, index_of};

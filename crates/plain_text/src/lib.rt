@@ -4,15 +4,15 @@
 //! with them, piece by piece, without writing it down.
 #![tactic(auto)]
 
+mod certificate_pieces;
 mod certificate_reader;
-mod certificate_writer;
 mod comparison;
 mod examples;
 mod faults;
+mod net_pieces;
 mod net_reader;
-mod net_writer;
+mod property_pieces;
 mod property_reader;
-mod property_writer;
 mod source;
 
 pub use certificate_reader::read_certificate;

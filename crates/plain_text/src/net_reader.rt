@@ -4,7 +4,7 @@ ghost use Rattle.plain_text.specs.Nets.{net_text};
 
 use crate::comparison::{Comparison, Differs};
 use crate::faults::TextFault;
-use crate::net_writer::put_net;
+use crate::net_pieces::put_net;
 use crate::source::Source;
 use name_tables::Name;
 use plain_model::{Arc, Place, PlainNet};

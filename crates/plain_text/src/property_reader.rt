@@ -4,7 +4,7 @@ ghost use Rattle.plain_text.specs.Properties.{property_text};
 
 use crate::comparison::{Comparison, Differs};
 use crate::faults::TextFault;
-use crate::property_writer::put_property;
+use crate::property_pieces::put_property;
 use crate::source::Source;
 use name_tables::Name;
 use plain_model::{Count, Property};

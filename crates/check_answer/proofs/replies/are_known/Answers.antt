@@ -4,7 +4,7 @@ use Rattle.std.specs.Option.{is_some}
 use Rattle.std.proofs.lemmas.List.{take_all}
 use Rattle.name_tables.specs.Numbering.{number_in}
 use Rattle.plain_rows.proofs.Distinct.{all_more}
-use Rattle.plain_judge.proofs.Marks.{contained}
+use Rattle.plain_judge.proofs.MetNames.{contained}
 use Rattle.check_answer.proofs.replies.are_known.Goals as goal
 
 known : (places : List (List ℕ)) (name : List ℕ) (found : Option ℕ) → found ≡ number_in places name → is_some found ≡ true → Contains places name

@@ -15,8 +15,8 @@ returns-in-Ok-settle_weights-clause-adds c =
     let large : FitsSigned w128 c.in-Ok-settle_weights.constant = search rules in
     let added = simp to_z-of_z at c.in-Ok-settle_weights.ensures.added in
     let fits = simp to_z-of_z at c.in-Ok-settle_weights.ensures.fits in
-    let spread = c.in-Ok.ensures ∙ ap (λ ws. map (weight_on ws) c.args.ids.now) c.as_slice-weights.ensures in
-    let same = constant_by_places c.args.net.now c.args.flow.now c.args.ids.now c.spread_on_zeros.new.coefficients c.requires.places spread in
+    let spread = c.in-Ok.ensures in
+    let same = constant_by_places c.args.net.now c.args.flow.now.flow c.args.flow.now.ids c.spread_on_zeros.new.coefficients c.requires.places spread in
     let terms = ap (λ ps. map neg_ℤ (products c.spread_on_zeros.new.coefficients (markings ps))) c.as_slice.ensures ∙ same in
     record {
       added = subst (λ (ys : List ℤ). AddsPart c.args.multiplier ys c.args.sums.now c.settle_weights.new.sums) spread added;
@@ -28,8 +28,8 @@ returns-in-Ok-settle_weights-clause-adds c =
 pub returns-in-Err-settle_weights-clause-wide : goal.returns-in-Err-settle_weights-clause-wide
 returns-in-Err-settle_weights-clause-wide c = λ is.
     let own : FitsSigned w64 c.args.multiplier = search rules in
-    let wide = simp to_z-of_z at (c.in-Err-settle_weights.ensures.wide is) in
-    let spread = c.in-Ok.ensures ∙ ap (λ ws. map (weight_on ws) c.args.ids.now) c.as_slice-weights.ensures in
-    let same = constant_by_places c.args.net.now c.args.flow.now c.args.ids.now c.spread_on_zeros.new.coefficients c.requires.places spread in
+    let wide = simp to_z-of_z at (c.in-Err-settle_weights.ensures.wide) in
+    let spread = c.in-Ok.ensures in
+    let same = constant_by_places c.args.net.now c.args.flow.now.flow c.args.flow.now.ids c.spread_on_zeros.new.coefficients c.requires.places spread in
     let terms = ap (λ ps. map neg_ℤ (products c.spread_on_zeros.new.coefficients (markings ps))) c.as_slice.ensures ∙ same in
-    settled_wide c.args.ids.now c.args.multiplier (flow_slack c.args.net.now c.args.flow.now) c.args.sums.now c.spread_on_zeros.new.coefficients _ spread terms wide
+    settled_wide c.args.flow.now.ids c.args.multiplier (flow_slack c.args.net.now c.args.flow.now.flow) c.args.sums.now c.spread_on_zeros.new.coefficients _ spread terms wide

@@ -5,7 +5,7 @@ use Rattle.name_tables.specs.Numbering.{number_in}
 use Rattle.plain_model.specs.declared.certificates.Multiplier.{Multiplier}
 use Rattle.plain_model.specs.Plain.{IsPlainMultiplier, MultiplyApart}
 use Rattle.plain_judge.specs.Examining.{AreExamined}
-use Rattle.plain_judge.proofs.Marks.{fact_more, hypothesis_more}
+use Rattle.plain_judge.proofs.MetNames.{fact_more, hypothesis_more}
 use Rattle.plain_judge.proofs.examining.are_multipliers.Goals as goal
 use Rattle.plain_judge.proofs.examining.are_multipliers.Goals.{in-Fact+in-Some+else-marks-fact-eq1+else-not-is_in_range, in-Hypothesis+else-is_hypothesis_met+else-number-ne1+else-not-is_in_range-2}
 

@@ -4,9 +4,9 @@ use Rattle.plain_model.specs.Plain.{AreDistinct, IsPlainWeight}
 use Rattle.plain_judge.specs.Examining.{IsMarked}
 use Rattle.plain_judge.proofs.examining.are_weights.Given as goal
 
-abbrev pub invariant-loop-weight : goal.invariant-loop-weight
-invariant-loop-weight l =
-    (length l.marks ≡ length l.places)
-    × All (IsPlainWeight l.places) (take l.weight-index l.weights)
-    × AreDistinct (map (λ (weight : Weight). weight.place) (take l.weight-index l.weights))
-    × All (IsMarked l.places l.marks l.fn.mark) (map (λ (weight : Weight). weight.place) (take l.weight-index l.weights))
+abbrev pub invariant-loop-at : goal.invariant-loop-at
+invariant-loop-at l =
+    (length l.marks ≡ length l.flow.ids)
+    × All (IsPlainWeight l.flow.ids) (take l.at l.flow.flow.weights)
+    × AreDistinct (map (λ (weight : Weight). weight.place) (take l.at l.flow.flow.weights))
+    × All (IsMarked l.flow.ids l.marks l.fn.mark) (map (λ (weight : Weight). weight.place) (take l.at l.flow.flow.weights))

@@ -3,5 +3,5 @@ use Rattle.plain_model.specs.Forms.{weight_on}
 use Rattle.plain_judge.specs.Coefficients.{Raises}
 use Rattle.plain_judge.proofs.spreads.add_weights.Given as goal
 
-abbrev pub invariant-loop-weight : goal.invariant-loop-weight
-invariant-loop-weight l = Raises l.ids (weight_on (take l.weight-index l.weights)) l.fn.coefficients l.coefficients
+abbrev pub invariant-loop-at : goal.invariant-loop-at
+invariant-loop-at l = Raises l.flow.ids (weight_on (take l.at l.flow.flow.weights)) l.fn.coefficients l.coefficients

@@ -1,5 +1,5 @@
 use Rattle.plain_judge.proofs.FirstFailing.{AreCleared}
 use Rattle.plain_judge.proofs.spreads.clear_weights.Given as goal
 
-abbrev pub invariant-loop-weight : goal.invariant-loop-weight
-invariant-loop-weight l = AreCleared l.ids l.weights l.weight-index l.coefficients
+abbrev pub invariant-loop-at : goal.invariant-loop-at
+invariant-loop-at l = AreCleared l.flow.ids l.flow.flow.weights l.at l.coefficients

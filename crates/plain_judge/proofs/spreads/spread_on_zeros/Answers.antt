@@ -7,7 +7,9 @@ use Rattle.plain_judge.proofs.spreads.spread_on_zeros.Goals as goal
 
 pub returns : goal.returns
 returns c =
-    let long : length c.add_weights.new.coefficients ≡ length c.args.ids.now =
-    omega (arith, ap length c.requires.zeros, length-replicate (length c.args.ids.now) (pos 0), c.add_weights.auto.coefficients) in
-    Raises-from_zeros c.args.ids.now (weight_on c.args.weights.now) (length c.args.ids.now) c.add_weights.new.coefficients long
-    (subst (λ (xs : List ℤ). Raises c.args.ids.now (weight_on c.args.weights.now) xs c.add_weights.new.coefficients) c.requires.zeros c.in_ok-add_weights.ensures)
+    let ids = c.args.flow.now.ids in
+    let weights = c.args.flow.now.flow.weights in
+    let long : length c.add_weights.new.coefficients ≡ length ids =
+    omega (arith, ap length c.requires, length-replicate (length ids) (pos 0), c.add_weights.auto.coefficients) in
+    Raises-from_zeros ids (weight_on weights) (length ids) c.add_weights.new.coefficients long
+    (subst (λ (xs : List ℤ). Raises ids (weight_on weights) xs c.add_weights.new.coefficients) c.requires c.in_ok-add_weights.ensures)

@@ -1,7 +1,0 @@
-use Rattle.plain_text.proofs.Pieces.{three}
-use Rattle.plain_text.specs.NetParts.{marking_text}
-use Rattle.plain_text.proofs.net_writer.put_marking.Goals as goal
-
-pub returns : goal.returns
-unfolding marking_text
-returns c = three _ _ _ _ c.in_ok-put.ensures c.in_ok-put_number_leaf.ensures c.in_ok-put-2.ensures

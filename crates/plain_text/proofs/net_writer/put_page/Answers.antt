@@ -1,4 +1,0 @@
-use Rattle.plain_text.proofs.net_writer.put_page.Goals as goal
-
-pub returns-else-has_nodes : goal.returns-else-has_nodes
-returns-else-has_nodes c = rw c.if-has_nodes.ensures c.put.ensures
