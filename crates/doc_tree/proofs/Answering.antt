@@ -368,7 +368,7 @@ none_in_nothing d = omega (arith, ap length d.is, length-append d.stem (60 ∷ d
 pub nothing_read_yet : HasReadBy None start 0 []
 nothing_read_yet = (refl, refl, (λ o d. none_in_nothing d, part_begins Between Whole [] None [] (document_read []) refl))
 
-ended_read : (st : State) (b : List ℕ) (t : Element) → PastState st b → ended_of st ≡ Some t → Spells b t
+pub ended_read : (st : State) (b : List ℕ) (t : Element) → PastState st b → ended_of st ≡ Some t → Spells b t
 ended_read (state Between Whole [] (Some root)) b t past h =
     let same : root ≡ t = cc in
     subst (λ x. Spells b x) same (whole_document b root past)

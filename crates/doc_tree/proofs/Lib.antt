@@ -11,3 +11,5 @@ pub mod Ends
 pub mod Answering
 pub mod TakenRuns
 pub mod Written
+pub mod Fresh
+pub mod Instances

@@ -1,8 +1,10 @@
 pub mod Characters
 pub mod Documents
+pub mod Known
 pub mod Machine
 pub mod Stacks
 pub mod Reading
 pub mod Fed
 pub mod Readers
 pub mod Writable
+pub mod Instances

@@ -1,6 +1,7 @@
 ghost use Rattle.std.specs.Prelude.{◌≡◌, ℕ, List};
 ghost use Rattle.doc_model.specs.declared.tree.Element.{Element};
 ghost use Rattle.doc_tree.specs.Documents.{Spells};
+ghost use Rattle.doc_tree.specs.Instances.{DepthIsRefused, DocumentIsSpelled, EndIsRefused, ReferencesAreSpelled};
 ghost use Rattle.doc_tree.specs.Writable.{WrittenIsSpelled};
 
 /// Bytes spell at most one tree.
@@ -13,4 +14,13 @@ pub fn spelled_tree_is_one()
 /// texts are UTF-8 of characters that a document may have.
 pub fn written_text_is_spelled()
     ensures { WrittenIsSpelled }
+{}
+
+/// Four instances of the definitions: an element with an attribute, a text and a child; references by name and by number; an end tag
+/// of another name; and an element within 256 open ones.
+pub fn small_instances_hold()
+    ensures document { DocumentIsSpelled }
+    ensures references { ReferencesAreSpelled }
+    ensures refusal { EndIsRefused }
+    ensures depth { DepthIsRefused }
 {}

@@ -1,6 +1,7 @@
 //! Documents read into trees, from pieces of any length, and written.
 #![tactic(auto)]
 
+mod attributes;
 mod characters;
 mod faults;
 mod laws;
@@ -13,7 +14,7 @@ mod stepping;
 
 pub use doc_model::{Attribute, Element, TextWriter, write};
 pub use faults::{DocFault, Fault};
-pub use laws::{spelled_tree_is_one, written_text_is_spelled};
+pub use laws::{small_instances_hold, spelled_tree_is_one, written_text_is_spelled};
 pub use reader::{Reader, read_pieces};
 
 #[cfg(test)]

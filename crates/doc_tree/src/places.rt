@@ -1,3 +1,4 @@
+use crate::attributes::Attributes;
 use doc_model::{Attribute, Element};
 use name_tables::Name;
 use sqlite_items::Items;
@@ -7,7 +8,7 @@ use sqlite_items::Items;
 pub struct Tag {
     pub at: u64,
     pub name: Name,
-    pub attributes: Items<Attribute>,
+    pub attributes: Attributes,
 }
 
 /// An element that isn't ended yet: its children and its characters so far.

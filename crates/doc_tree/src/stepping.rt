@@ -3,16 +3,16 @@ ghost use Rattle.doc_model.specs.declared.tree.Element.{Element};
 ghost use Rattle.doc_tree.specs.declared.places.Open.{Open};
 ghost use Rattle.doc_tree.specs.declared.places.Place.TheVariants as place;
 ghost use Rattle.doc_tree.specs.declared.places.Part.TheVariants as part;
-ghost use Rattle.doc_tree.specs.Documents.{are_white, is_fresh, shown};
+ghost use Rattle.doc_tree.specs.Documents.{are_white, shown};
 ghost use Rattle.doc_tree.specs.Characters.{is_tail, utf8};
 ghost use Rattle.doc_tree.specs.Machine.{after_end, after_key, after_tag, chosen, closed, element_of, empty_element, lead_at, named, opened, refused, stay, state, step, step_at, taken, takes, test};
 
+use crate::attributes::Attributes;
 use crate::characters::{
     digit_value, is_character_number, is_comment_byte, is_front_of_four, is_front_of_three,
     is_instruction_byte, is_lead, is_lead_of_two, is_name_byte, is_name_start, is_tail, is_text,
     is_value, is_white,
 };
-use crate::lists::put;
 use crate::places::{Dashes, Entity, Open, Part, Place, Quote, Radix, Tag};
 use crate::stack::Stack;
 use doc_model::{Attribute, Element};
@@ -41,17 +41,6 @@ fn shown(alloc: Global, characters: Name) -> Name
         return Name::from(Vec::new(alloc));
     }
     characters
-}
-
-fn is_fresh(name: &[u8], attributes: &[Attribute]) -> bool
-    ensures { result ≡ is_fresh name.now attributes.now }
-{
-    for attribute in attributes {
-        if name == attribute.name.bytes() {
-            return false;
-        }
-    }
-    true
 }
 
 /// An element has ended.
@@ -182,7 +171,7 @@ fn after_tag(alloc: Global, opens: &mut Stack, tag: Tag, at: u64, byte: u8) -> R
         opens.push(Open {
             at: from,
             name,
-            attributes,
+            attributes: attributes.into_items(),
             children: Items::new(alloc),
             text: Name::from(Vec::new(alloc)),
         })?;
@@ -211,7 +200,7 @@ fn tag_name(
     let tag = Tag {
         at: from,
         name,
-        attributes: Items::new(alloc),
+        attributes: Attributes::new(alloc),
     };
     after_tag(alloc, opens, tag, at, byte)
 }
@@ -245,7 +234,7 @@ fn key(tag: Tag, mut key: Name, at: u64, byte: u8) -> Result<Place, Memory>
         key.push(byte)?;
         return Ok(Place::Key(tag, key));
     }
-    if is_fresh(key.bytes(), tag.attributes.as_slice()) {
+    if tag.attributes.is_fresh(key.bytes()) {
         return Ok(after_key(tag, key, at, byte));
     }
     Ok(Place::Refused(at))
@@ -268,7 +257,7 @@ fn equals(alloc: Global, tag: Tag, key: Name, at: u64, byte: u8) -> Place
 
 fn value_byte(
     alloc: Global,
-    mut tag: Tag,
+    tag: Tag,
     key: Name,
     quote: Quote,
     mut value: Name,
@@ -282,8 +271,18 @@ fn value_byte(
         return Ok((Place::Value(tag, key, quote, value), Part::Whole));
     }
     if byte == quote.byte() {
-        put(alloc, &mut tag.attributes, Attribute { name: key, value })?;
-        return Ok((Place::Attributed(tag), Part::Whole));
+        let Tag {
+            at: from,
+            name,
+            attributes,
+        } = tag;
+        let attributes = attributes.push(alloc, Attribute { name: key, value })?;
+        let longer = Tag {
+            at: from,
+            name,
+            attributes,
+        };
+        return Ok((Place::Attributed(longer), Part::Whole));
     }
     if byte == b'&' {
         return Ok((Place::Value(tag, key, quote, value), Part::Reference));
@@ -312,7 +311,7 @@ fn slash(
     let element = Element {
         at: from,
         name,
-        attributes,
+        attributes: attributes.into_items(),
         children: Items::new(alloc),
         text: Name::from(Vec::new(alloc)),
     };
@@ -786,6 +785,88 @@ fn next(
     }
 }
 
+/// A byte that begins no character past ASCII, at a place that is taken out and put back.
+#[inline(never)]
+fn step_taken(
+    alloc: Global,
+    opens: &mut Stack,
+    root: &mut Option<Element>,
+    place: &mut Place,
+    at: u64,
+    byte: u8,
+) -> Result<Part, Memory>
+    ensures { IfOk result (λ q. state place.new q opens.new root.new ≡ chosen (step_at place.old opens.old root.old at byte)) }
+{
+    let taken = mem::replace(place, Place::Between);
+    let (next, part) = ascii_step(alloc, opens, root, taken, at, byte)?;
+    *place = next;
+    Ok(part)
+}
+
+/// Behind a `<` at an offset, where the place stands.
+#[inline(never)]
+fn step_less(
+    alloc: Global,
+    opens: &Stack,
+    root: &Option<Element>,
+    into: &mut Place,
+    from: u64,
+    at: u64,
+    byte: u8,
+) -> Result<Part, Memory>
+    ensures { IfOk result (λ q. state into.new q opens.now root.now ≡ chosen (step_at (place.Less from) opens.now root.now at byte)) }
+{
+    let next = less(alloc, opens, root, from, at, byte)?;
+    *into = next;
+    Ok(Part::Whole)
+}
+
+/// In an end tag, where the place stands.
+#[inline(never)]
+fn step_close(
+    alloc: Global,
+    opens: &mut Stack,
+    root: &mut Option<Element>,
+    into: &mut Place,
+    read: usize,
+    at: u64,
+    byte: u8,
+) -> Result<Part, Memory>
+    ensures { IfOk result (λ q. state into.new q opens.new root.new ≡ chosen (step_at (place.Close read) opens.old root.old at byte)) }
+{
+    let next = close_name(alloc, opens, root, read, at, byte)?;
+    *into = next;
+    Ok(Part::Whole)
+}
+
+/// Between two tokens, where the place stands.
+#[inline(never)]
+fn step_between(opens: &mut Stack, into: &mut Place, at: u64, byte: u8) -> Result<Part, Memory>
+    ensures { IfOk result (λ q. (r : Option Element) → state into.new q opens.new r ≡ chosen (step_at place.Between opens.old r at byte)) }
+{
+    let (next, part) = between(opens, at, byte)?;
+    *into = next;
+    Ok(part)
+}
+
+/// In the name of a start tag, where the place stands.
+#[inline(never)]
+fn step_tag_name(
+    alloc: Global,
+    opens: &mut Stack,
+    into: &mut Place,
+    from: u64,
+    name: Name,
+    at: u64,
+    byte: u8,
+) -> Result<Part, Memory>
+    ensures { IfOk result (λ q. (r : Option Element) → state into.new q opens.new r ≡ chosen (step_at (place.TagName from name) opens.old r at byte)) }
+{
+    let next = tag_name(alloc, opens, from, name, at, byte)?;
+    *into = next;
+    Ok(Part::Whole)
+}
+
 /// A byte that begins no character past ASCII, where no part of a character or a reference was read. What the place holds stays
 /// where it is while nothing else holds it.
 fn step_in_place(
@@ -799,34 +880,41 @@ fn step_in_place(
     ensures { IfOk result (λ q. state place.new q opens.new root.new ≡ chosen (step_at place.old opens.old root.old at byte)) }
 {
     match place {
-        Place::Between => {
-            let (next, part) = between(opens, at, byte)?;
-            *place = next;
-            Ok(part)
-        }
+        Place::Between => step_between(opens, place, at, byte),
         Place::Less(from) => {
-            let next = less(alloc, opens, root, *from, at, byte)?;
-            *place = next;
-            Ok(Part::Whole)
+            let from = *from;
+            step_less(alloc, opens, root, place, from, at, byte)
         }
         Place::Close(read) => {
-            let next = close_name(alloc, opens, root, *read, at, byte)?;
-            *place = next;
-            Ok(Part::Whole)
+            let read = *read;
+            step_close(alloc, opens, root, place, read, at, byte)
         }
         Place::TagName(from, name) => {
+            let from = *from;
             let name = mem::replace(name, Name::from(Vec::new(alloc)));
-            let next = tag_name(alloc, opens, *from, name, at, byte)?;
-            *place = next;
-            Ok(Part::Whole)
+            step_tag_name(alloc, opens, place, from, name, at, byte)
         }
-        _ => {
-            let taken = mem::replace(place, Place::Between);
-            let (next, part) = ascii_step(alloc, opens, root, taken, at, byte)?;
-            *place = next;
-            Ok(part)
-        }
+        _ => step_taken(alloc, opens, root, place, at, byte),
     }
+}
+
+/// The next byte, at a place that is taken out and put back.
+#[inline(never)]
+fn advance_taken(
+    alloc: Global,
+    opens: &mut Stack,
+    root: &mut Option<Element>,
+    place: &mut Place,
+    part: Part,
+    at: u64,
+    byte: u8,
+) -> Result<Part, Memory>
+    ensures { IfOk result (λ q. state place.new q opens.new root.new ≡ chosen (step place.old part opens.old root.old at byte)) }
+{
+    let taken = mem::replace(place, Place::Between);
+    let (next, part) = next(alloc, opens, root, taken, part, at, byte)?;
+    *place = next;
+    Ok(part)
 }
 
 /// The next byte: the place behind it, and the part of a character or a reference that was read.
@@ -843,15 +931,11 @@ pub fn advance(
 {
     match part {
         Part::Whole => {
-            if !is_lead(byte) {
-                let part = step_in_place(alloc, opens, root, place, at, byte)?;
-                return Ok(part);
+            if is_lead(byte) {
+                return advance_taken(alloc, opens, root, place, Part::Whole, at, byte);
             }
+            step_in_place(alloc, opens, root, place, at, byte)
         }
-        _ => {}
+        other => advance_taken(alloc, opens, root, place, other, at, byte),
     }
-    let taken = mem::replace(place, Place::Between);
-    let (next, part) = next(alloc, opens, root, taken, part, at, byte)?;
-    *place = next;
-    Ok(part)
 }

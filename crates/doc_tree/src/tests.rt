@@ -51,6 +51,23 @@ const TAGS_AND_ENDS: &[Row] = &[
     (b"< a/>", Some(1)),
     (b"<1a/>", Some(1)),
     (b"<a></ a>", Some(5)),
+    (b"<a><b/><c></c></a>", None),
+    (b"<:a-b.1_/>", None),
+    (b"<a>></a>", None),
+    (b"<", Some(1)),
+    (b"<a></", Some(5)),
+    (b"<a></a", Some(6)),
+    (b"<a></a ", Some(7)),
+    (b"<a></a x>", Some(7)),
+    (b"<a></a/>", Some(6)),
+    (b"<a/ >", Some(3)),
+    (b"<a//>", Some(3)),
+    (b"<-a/>", Some(1)),
+    (b"<a><></a>", Some(4)),
+    (b"<a\x0C/>", Some(2)),
+    (b"\x00<a/>", Some(0)),
+    (b"<a/>\x00", Some(4)),
+    (b"<ab><a></ab>", Some(10)),
 ];
 
 const ATTRIBUTES: &[Row] = &[
@@ -65,6 +82,32 @@ const ATTRIBUTES: &[Row] = &[
     (b"<a b/>", Some(4)),
     (b"<a 'b'/>", Some(3)),
     (b"<a></a b='1'>", Some(7)),
+    (b"<a b=''/>", None),
+    (b"<a b='&lt;&#60;'/>", None),
+    (b"<a b='1' bb='2' B='3'/>", None),
+    (b"<a b='\n\t'/>", None),
+    (
+        b"<a a='' b='' c='' d='' e='' f='' g='' h='' i='' j='' k='' l=''/>",
+        None,
+    ),
+    (
+        b"<a a='' b='' c='' d='' e='' f='' g='' h='' i='' j='' k='' b=''/>",
+        Some(59),
+    ),
+    (
+        b"<a a='' b='' c='' d='' e='' f='' g='' h='' i='' j='' k='' k=''/>",
+        Some(59),
+    ),
+    (b"<a b='1' c='2' b='3'/>", Some(16)),
+    (b"<a b='1'c='2'/>", Some(8)),
+    (b"<a b='\x01'/>", Some(6)),
+    (b"<a b= c='1'/>", Some(6)),
+    (b"<a ='1'/>", Some(3)),
+    (b"<a b='1", Some(7)),
+    (b"<a b='&", Some(7)),
+    (b"<a b='1'", Some(8)),
+    (b"<a b='1'>", Some(9)),
+    (b"<a 1b='2'/>", Some(3)),
 ];
 
 const REFERENCES: &[Row] = &[
@@ -85,6 +128,19 @@ const REFERENCES: &[Row] = &[
     (b"<a>&nbsp;</a>", Some(4)),
     (b"<a>&lt</a>", Some(6)),
     (b"&lt;<a/>", Some(0)),
+    (b"<a>&#x10FFFF;</a>", None),
+    (b"<a>&#xD7FF;&#xE000;</a>", None),
+    (b"<a>&#xA;&#xD;&#x20;</a>", None),
+    (b"<a>&gt;&#62;</a>", None),
+    (b"<a>&#1;</a>", Some(6)),
+    (b"<a>&#55296;</a>", Some(10)),
+    (b"<a>&lt;", Some(7)),
+    (b"<a>&AMP;</a>", Some(4)),
+    (b"<a>&apo;</a>", Some(7)),
+    (b"<a>&quott;</a>", Some(8)),
+    (b"<a>&#9</a>", Some(6)),
+    (b"<a>&#xG;</a>", Some(6)),
+    (b"<a>& </a>", Some(4)),
 ];
 
 const ASIDES: &[Row] = &[
@@ -98,6 +154,25 @@ const ASIDES: &[Row] = &[
     (b"<?a?b?>", Some(4)),
     (b"<a><!-- ", Some(8)),
     (b"<a/><!-- \x01 -->", Some(9)),
+    (b"<!--a--><a/><!--b-->", None),
+    (b"<!--a->--><a/>", None),
+    (b"<?a?><a/>", None),
+    (b"<?a ?><a/>", None),
+    (b"<?a ??><a/>", None),
+    (b"<a>]]></a>", None),
+    (b"<a>--></a>", None),
+    (b"<!-a--><a/>", Some(3)),
+    (b"<!--a--", Some(7)),
+    (b"<a><!--</a>", Some(11)),
+    (b"<? a?>", Some(2)),
+    (b"<?1?>", Some(2)),
+    (b"<?a", Some(3)),
+    (b"<?a b", Some(5)),
+    (b"<?a b?", Some(6)),
+    (b"<a b='<?c?>'/>", Some(6)),
+    (b"<?a \x02?><a/>", Some(4)),
+    (b"<a <!---->/>", Some(3)),
+    (b"<!ELEMENT>", Some(2)),
 ];
 
 const BYTES_PAST_ASCII: &[Row] = &[
@@ -121,6 +196,19 @@ const BYTES_PAST_ASCII: &[Row] = &[
     (b"<\xC3\xA4></\xC3\xA5>", Some(7)),
     (b"\xC3\xA4<a/>", Some(0)),
     (b"\xEF<a/>", Some(1)),
+    (b"<a>\xC2\x80\xEF\xBF\xBF</a>", None),
+    (b"<a>\xED\x9F\xBF\xEE\x80\x80</a>", None),
+    (b"<a>\xF4\x8F\xBF\xBF</a>", None),
+    (b"<\xEF\xBB\xBFa/>", None),
+    (b"<!--\xC3\xA4--><?\xC3\xA4 \xC3\xA4?><a/>", None),
+    (b"<a>\xC1\xBF</a>", Some(3)),
+    (b"<a b='\xE2\x82'/>", Some(8)),
+    (b"<a>\xF0\x9F\x98</a>", Some(6)),
+    (b"<a/>\xEF\xBB\xBF", Some(4)),
+    (b" \xEF\xBB\xBF<a/>", Some(1)),
+    (b"\xEF\xBBx<a/>", Some(2)),
+    (b"<a></a\xC3\xA4>", Some(6)),
+    (b"<!--\xFF--><a/>", Some(4)),
 ];
 
 /// The place of the first row that isn't answered so, in pieces of some size.
@@ -146,6 +234,26 @@ fn each_row_is_answered_in_any_pieces(rt: HostRuntime) -> Result<(), Fail> {
     assert_eq!(rt; wrong_row(rt.alloc(), REFERENCES), None);
     assert_eq!(rt; wrong_row(rt.alloc(), ASIDES), None);
     assert_eq!(rt; wrong_row(rt.alloc(), BYTES_PAST_ASCII), None);
+    Ok(())
+}
+
+/// A document that ends with its root, with each construct.
+const WHOLE: &[u8] =
+    b"\xEF\xBB\xBF<?xml version='1.0'?>\n<!--a-b--><?c?><a b='1&#x41;&lt;\xC3\xA4' c = \"2\" >x&amp;&gt;&quot;&apos;&#9;]]><!----><?d e?><f/><g\t>\xF0\x9F\x98\x80</g\n></a>";
+
+#[test]
+fn each_front_of_a_document_is_malformed_at_its_end(rt: HostRuntime) -> Result<(), Fail> {
+    for length in 0..WHOLE.len() {
+        for size in [1, 2, 1_000_000] {
+            assert_eq!(rt;
+                fault_in(rt.alloc(), &WHOLE[..length], size),
+                Some(DocFault::Malformed {
+                    offset: length as u64
+                })
+            );
+        }
+    }
+    assert_eq!(rt; fault_in(rt.alloc(), WHOLE, 2), None);
     Ok(())
 }
 
