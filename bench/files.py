@@ -8,10 +8,12 @@ PROGRAM is the built program (crates/pnml_cli/out/pnml_cli once `rt ci` or ./tru
 it), SIZE a number of MiB. The files are made in a temporary folder. One token goes round a ring of
 places; the property adds up all places as often as its file has room, and the certificate has one
 flow over all places after the other. In the other family the net is many rings of two places, and the
-certificate has a flow for each of them. Each run has to print `holds`. Beside it stand the time that
+certificate has a flow for each of them. Each run has to print `holds`. Beside it stand the time of a run
+that ends when the three files are read, since the certificate has another byte at its end, the time that
 `cat` takes for the three files, and that of `wc -w`, which takes one pass over their words.
 """
 import os
+import shutil
 import subprocess
 import sys
 import tempfile
@@ -96,6 +98,16 @@ def measured(words):
     return output, time.monotonic() - started, usage.ru_maxrss / 1024
 
 
+def damaged(name):
+    """A copy of the file with another byte at its end."""
+    other = name + ".damaged"
+    shutil.copyfile(name, other)
+    with open(other, "r+b") as file:
+        file.seek(-1, os.SEEK_END)
+        file.write(b" ")
+    return other
+
+
 def counted(name, word):
     """How many lines of the file begin with the word."""
     with open(name, "rb") as file:
@@ -112,11 +124,12 @@ def show(label, program, size, maker):
         places, flows = counted(names[0], b"<place "), counted(names[2], b"flow ")
         _, reading, _ = measured(["cat"] + names)
         _, words, _ = measured(["wc", "-w"] + names)
+        refusal, read, _ = measured([program, "check"] + names[:2] + [damaged(names[2])])
         output, seconds, peak = measured([program, "check"] + names)
-        if not output.startswith(b"holds\n"):
-            print(f"{label} {size}: {output[:200]!r}")
+        if not output.startswith(b"holds\n") or refusal != b"refused certificate not-yet\n":
+            print(f"{label} {size}: {output[:200]!r} {refusal[:200]!r}")
             sys.exit(1)
-        print(f"{label:6s} {size // MIB:5d}  {total:6.1f}  {places:7d}  {flows:7d}  {seconds:7.2f}  {reading:7.2f}  {words:7.2f}  {peak:8.0f}", flush=True)
+        print(f"{label:6s} {size // MIB:5d}  {total:6.1f}  {places:7d}  {flows:7d}  {seconds:7.2f}  {read:7.2f}  {reading:7.2f}  {words:7.2f}  {peak:8.0f}", flush=True)
 
 
 def ring_texts(size):
@@ -129,7 +142,7 @@ def ring_texts(size):
 def main():
     program = os.path.abspath(sys.argv[1])
     sizes = [int(word) for word in sys.argv[2:]] or [1, 8, 64]
-    print("net      MiB  in all   places    flows  seconds      cat    wc -w  peak MiB")
+    print("net      MiB  in all   places    flows  seconds     read      cat    wc -w  peak MiB")
     for label, maker in (("ring", ring_texts), ("pairs", pairs_texts)):
         for size in sizes:
             show(label, program, size * MIB, maker)
