@@ -21,6 +21,14 @@ impl Refusal {
             TextFault::Memory => Refusal::Memory,
         }
     }
+
+    /// Why this file isn't judged.
+    pub fn of_judge(role: Role, fault: JudgeFault) -> Refusal {
+        match fault {
+            JudgeFault::NotYet => Refusal::NotYet(role),
+            JudgeFault::Memory => Refusal::Memory,
+        }
+    }
 }
 
 impl From<Memory> for Refusal {
@@ -34,16 +42,6 @@ impl From<BuildFault> for Refusal {
         match fault {
             BuildFault::NotYet => Refusal::NotYet(Role::Net),
             BuildFault::Memory => Refusal::Memory,
-        }
-    }
-}
-
-/// The judge takes each property whose places are known.
-impl From<JudgeFault> for Refusal {
-    fn from(fault: JudgeFault) -> Refusal {
-        match fault {
-            JudgeFault::NotYet => Refusal::NotYet(Role::Cert),
-            JudgeFault::Memory => Refusal::Memory,
         }
     }
 }

@@ -1,7 +1,6 @@
-ghost use Rattle.std.specs.Prelude.{◌≡◌, ◌++◌, ◌∷◌, [], codes, All, Contains, IfOk, OnOk};
-ghost use Rattle.std.specs.Bool.{OnTrue};
+ghost use Rattle.std.specs.Prelude.{◌≡◌, ◌++◌, ◌∷◌, [], codes, IfOk, OnOk};
 ghost use Rattle.plain_model.specs.Obligations.{judgement};
-ghost use Rattle.plain_model.specs.Plain.{IsId, IsPlainCertificate, IsPlainCount, IsPlainNet, IsPlainProperty, place_ids};
+ghost use Rattle.plain_model.specs.Plain.{AreDistinct, IsId, IsPlainCertificate, IsPlainCount, IsPlainNet, place_ids};
 ghost use Rattle.plain_rows.specs.Rows.{AreRowsOf};
 ghost use Rattle.plain_text.specs.Certificates.{certificate_text};
 ghost use Rattle.plain_text.specs.Nets.{net_text};
@@ -13,17 +12,14 @@ use crate::outcomes::{Outcome, outcome_of};
 use crate::refusals::Refusal;
 use crate::report::{put, report_text};
 use host_io::{Gate, Phase};
-use name_tables::{Name, is_id};
-use plain_judge::judge;
-use plain_model::{Certificate, Count, Judged, PlainNet, Property};
+use name_tables::is_id;
+use plain_judge::{NumberedProperty, judge};
+use plain_model::{Certificate, Judged, PlainNet, Property};
 use plain_rows::{Numbers, PlainRows, build};
 use plain_text::{read_certificate, read_net, read_property};
 use pnml_inputs::{Inputs, Role};
 use std::alloc::Global;
 use wide_sums::Memory;
-
-// 2^63 - 1, the largest number of a count.
-const MAX_NUMBER: u64 = 9_223_372_036_854_775_807;
 
 /// An outcome, and the whole text that is to be written for it.
 #[derive(Debug, Drop)]
@@ -107,59 +103,38 @@ fn rows_of<'a, G: Gate>(
     Ok(rows)
 }
 
-/// Whether the count is a number in range, or lists places of the net, at least one.
-fn is_plain_count(places: &Numbers<'_>, count: &Count) -> bool
-    ensures { OnTrue result (IsPlainCount places.now count.now) }
-{
-    match count {
-        Count::Number(number) => *number <= MAX_NUMBER,
-        Count::Tokens(names) => !names.is_empty() && are_known(places, names.as_slice()),
-    }
-}
-
-/// Whether each name is that of a place.
-fn are_known(places: &Numbers<'_>, names: &[Name]) -> bool
-    ensures { OnTrue result (All (Contains places.now) names.now) }
-{
-    for name in names {
-        if places.find(name.bytes()).is_none() {
-            return false;
-        }
-    }
-    true
-}
-
-/// Whether the property has an id, and counts in form over these places.
-fn is_plain_property(places: &Numbers<'_>, property: &Property) -> bool
-    ensures id { OnTrue result (IsId property.now.id) }
-    ensures left { OnTrue result (IsPlainCount places.now property.now.left) }
-    ensures right { OnTrue result (IsPlainCount places.now property.now.right) }
-{
-    is_id(property.id.bytes())
-        && is_plain_count(places, &property.left)
-        && is_plain_count(places, &property.right)
-}
-
-/// The property of this file.
-fn property_of(
-    alloc: Global,
-    bytes: &[u8],
-    net: &PlainNet,
-    places: &Numbers<'_>,
-) -> Result<Property, Refusal>
-    requires { places.now ≡ place_ids net.now }
+/// The property of this file, whose id is one.
+fn property_of(alloc: Global, bytes: &[u8]) -> Result<Property, Refusal>
     ensures read { IfOk result (λ property. property_text property ≡ bytes.now) }
-    ensures plain { IfOk result (IsPlainProperty net.now) }
+    ensures id { IfOk result (λ property. IsId property.id) }
 {
     match read_property(alloc, bytes) {
         Ok(property) => {
-            if is_plain_property(places, &property) {
+            if is_id(property.id.bytes()) {
                 Ok(property)
             } else {
                 Err(Refusal::NotYet(Role::Formula))
             }
         }
         Err(fault) => Err(Refusal::of_text(Role::Formula, fault)),
+    }
+}
+
+/// The property over the numbers of the net's places.
+fn numbered_property<'a>(
+    alloc: Global,
+    places: &'a Numbers<'a>,
+    property: &'a Property,
+) -> Result<NumberedProperty<'a>, Refusal>
+    requires { AreDistinct places.now }
+    ensures ids { IfOk result (λ numbered. numbered.ids ≡ places.now) }
+    ensures property { IfOk result (λ numbered. numbered.property ≡ property.now) }
+    ensures left { OnOk result (IsPlainCount places.now property.now.left) }
+    ensures right { OnOk result (IsPlainCount places.now property.now.right) }
+{
+    match NumberedProperty::new(alloc, places, property) {
+        Ok(numbered) => Ok(numbered),
+        Err(fault) => Err(Refusal::of_judge(Role::Formula, fault)),
     }
 }
 
@@ -178,19 +153,48 @@ fn judgement_of<G: Gate>(
     alloc: Global,
     net: &PlainNet,
     rows: &PlainRows<'_>,
-    property: &Property,
+    property: &NumberedProperty<'_>,
     certificate: &Certificate,
     gate: &G,
 ) -> Result<Judged, Refusal>
     requires plain { IsPlainNet net.now }
     requires places { rows.now.places ≡ place_ids net.now }
     requires rows { AreRowsOf net.now rows.now.net }
-    ensures plain { OnOk result (IsPlainCertificate net.now property.now certificate.now) }
-    ensures judged { IfOk result (λ judged. judged ≡ judgement net.now property.now certificate.now) }
+    requires property { property.now.ids ≡ place_ids net.now }
+    ensures plain { OnOk result (IsPlainCertificate net.now property.now.property certificate.now) }
+    ensures judged { IfOk result (λ judged. judged ≡ judgement net.now property.now.property certificate.now) }
 {
     gate.enter(Phase::Judge, 0);
-    let judged = judge(alloc, net, rows, property, certificate)?;
-    Ok(judged)
+    match judge(alloc, net, rows, property, certificate) {
+        Ok(judged) => Ok(judged),
+        Err(fault) => Err(Refusal::of_judge(Role::Cert, fault)),
+    }
+}
+
+/// The report on the texts of this net, whose rows are these, of a property and of a certificate.
+fn reply_on<G: Gate>(
+    alloc: Global,
+    inputs: &Inputs,
+    net: &PlainNet,
+    rows: &PlainRows<'_>,
+    gate: &G,
+) -> Result<Reply, Refusal>
+    requires file { net_text net.now ≡ inputs.now.net }
+    requires plain { IsPlainNet net.now }
+    requires places { rows.now.places ≡ place_ids net.now }
+    requires rows { AreRowsOf net.now rows.now.net }
+    ensures is_final { IfOk result (λ reply. IsFinal reply.outcome) }
+    ensures judged { IfOk result (λ reply. IsJudged inputs.now reply.outcome reply.text.items) }
+{
+    let property = property_of(alloc, inputs.formula())?;
+    let numbered = numbered_property(alloc, &rows.places, &property)?;
+    let certificate = certificate_of(alloc, inputs.certificate())?;
+    let judged = judgement_of(alloc, net, rows, &numbered, &certificate, gate)?;
+    let text = report_text(alloc, net, &property, &certificate, &judged)?;
+    Ok(Reply {
+        outcome: outcome_of(&judged),
+        text,
+    })
 }
 
 /// The report on the three texts. The first that isn't taken yet, in their order, is refused.
@@ -200,14 +204,7 @@ fn judged_reply<G: Gate>(alloc: Global, inputs: &Inputs, gate: &G) -> Result<Rep
 {
     let net = net_of(alloc, inputs.net())?;
     let rows = rows_of(alloc, &net, gate)?;
-    let property = property_of(alloc, inputs.formula(), &net, &rows.places)?;
-    let certificate = certificate_of(alloc, inputs.certificate())?;
-    let judged = judgement_of(alloc, &net, &rows, &property, &certificate, gate)?;
-    let text = report_text(alloc, &net, &property, &certificate, &judged)?;
-    Ok(Reply {
-        outcome: outcome_of(&judged),
-        text,
-    })
+    reply_on(alloc, inputs, &net, &rows, gate)
 }
 
 /// The reply to three texts: the report, or the line `refused ROLE not-yet` for the first of them

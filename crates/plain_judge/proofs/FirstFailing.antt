@@ -33,7 +33,8 @@ use Rattle.plain_judge.specs.Incidences.{AreIncidences, ListsRow, incidence}
 use Rattle.plain_judge.specs.Judging.{instance_check, judged_rows, row_checks, then_judged}
 use Rattle.plain_judge.specs.Searching.{IsFirstFailing, IsFirstMarked, KeepAtPlaces, is_weighed, keeps}
 use Rattle.plain_judge.proofs.Order.{cells_check-counts}
-use Rattle.plain_judge.proofs.RaisedPlaces.{number_in-is, other_bytes, same_place}
+use Rattle.plain_judge.proofs.RaisedPlaces.{other_bytes}
+use Rattle.plain_rows.proofs.Distinct.{named, same_place}
 
 -- one more incidence was visited
 pub tested_more : (ys : List ℤ) (system : NetSystem) (incidences : List Incidence) (i : ℕ) (item : Incidence) (old new : ℕ) → i < length incidences → item ≡ get_or incidences i item → new ≤ old
@@ -57,7 +58,7 @@ places_more names weights i weight incidences here ys system place old new disti
     (sym (list_any_more (λ (w : Weight). bytes_eq (get_or names q []) w.place) weights i weight inside) ∙ weighed))
   where
     at : (place < length names) × (get_or names place [] ≡ weight.place)
-    at = number_in-is names weight.place place found
+    at = named names weight.place place [] found
 
     now : bytes_eq (get_or names q []) (get_or weights i weight).place ≡ true → keeps ys system t ≡ true
     now same =
@@ -251,7 +252,7 @@ pub cleared_more : (names : List (List ℕ)) (weights : List Weight) (i : ℕ) (
 cleared_more names weights i weight old new place distinct inside item found long is before q within = cases (same_or_other q place)
   where
     at : (place < length names) × (get_or names place [] ≡ weight.place)
-    at = number_in-is names weight.place place found
+    at = named names weight.place place [] found
 
     more : (b : Bool) → bytes_eq (get_or names q []) weight.place ≡ b
         → is_weighed (take (i + 1) weights) (get_or names q []) ≡ (is_weighed (take i weights) (get_or names q []) || b)

@@ -4,7 +4,7 @@ mod Dense
 mod Sums
 mod Slacks
 mod Residues
-mod Order
+pub mod Order
 pub mod MetNames
 mod PlaceNumbers
 mod ByPlace

@@ -3,20 +3,14 @@ use Rattle.std.proofs.Common.{◌≡◌, ◌≢◌, ℕ, zero, suc, ◌+◌, ◌
 use Rattle.std.specs.Prelude.{bytes_eq}
 use Rattle.std.proofs.lemmas.Int.{ints}
 use Rattle.std.proofs.lemmas.List.{take_more}
-use Rattle.std.proofs.lemmas.List.Quantifiers.{position-Some}
 use Rattle.std.specs.Cmp.Lexicographic.{bytes_decides}
 use Rattle.name_tables.specs.Numbering.{number_in}
 use Rattle.plain_model.specs.declared.certificates.Weight.{Weight}
 use Rattle.plain_model.specs.Forms.{weight_on, times_in}
 use Rattle.plain_model.specs.Plain.{AreDistinct}
 use Rattle.plain_model.proofs.Products.{mul_counts, mul_zero}
+use Rattle.plain_rows.proofs.Distinct.{compared, named}
 use Rattle.plain_judge.specs.Coefficients.{raised, Raises}
-
--- a name and the one at its number are the same
-pub number_in-is : (names : List (List ℕ)) (name : List ℕ) (place : ℕ) → number_in names name ≡ Some place → (place < length names) × (get_or names place [] ≡ name)
-number_in-is names name place found =
-    let at = position-Some (bytes_eq name) names place [] found in
-    (at.0, sym ((bytes_decides name (get_or names place [])).0 at.1))
 
 same_bytes : (name : List ℕ) → bytes_eq name name ≡ true
 same_bytes name = (bytes_decides name name).1 refl
@@ -28,9 +22,6 @@ other_bytes one other apart = cases (bytes_eq one other) (bytes_decides one othe
     cases true tells = absurd (apart (tells refl))
     cases false tells = refl
 
-compared : (a b : ℕ) → (a ≡ b) ⊎ ((a < b) ⊎ (b < a))
-compared a b = grind arith
-
 other_name : (names : List (List ℕ)) (q place : ℕ) → AreDistinct names → q < length names → place < length names → q ≢ place → get_or names q [] ≢ get_or names place []
 other_name names q place distinct within there apart = cases (compared q place)
   where
@@ -38,15 +29,6 @@ other_name names q place distinct within there apart = cases (compared q place)
     cases (inl same) = absurd (apart same)
     cases (inr (inl below)) = distinct q place [] below there
     cases (inr (inr above)) = λ e. distinct place q [] above within (sym e)
-
--- one name stands at one place
-pub same_place : (names : List (List ℕ)) (q place : ℕ) → AreDistinct names → q < length names → place < length names → get_or names q [] ≡ get_or names place [] → q ≡ place
-same_place names q place distinct within there same = cases (compared q place)
-  where
-    cases : (q ≡ place) ⊎ ((q < place) ⊎ (place < q)) → q ≡ place
-    cases (inl e) = e
-    cases (inr (inl below)) = absurd (distinct q place [] below there same)
-    cases (inr (inr above)) = absurd (distinct place q [] above within (sym same))
 
 -- raising the coefficient of a named place adds to what each place has risen by
 pub Raises-raised : (names : List (List ℕ)) (more now : List ℕ → ℤ) (old mid new : List ℤ) (place : ℕ) (name : List ℕ) (value : ℤ)
@@ -57,7 +39,7 @@ Raises-raised names more now old mid new place name value distinct found long is
     cases (compared q place)
   where
     at : (place < length names) × (get_or names place [] ≡ name)
-    at = number_in-is names name place found
+    at = named names name place [] found
 
     here : q ≡ place → get_or new q (pos 0) ≡ get_or old q (pos 0) +ℤ now (get_or names q [])
     here same =

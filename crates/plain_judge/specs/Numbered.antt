@@ -3,6 +3,7 @@ use Rattle.std.specs.Prelude.{◌≡◌, ℕ, List, map, Some}
 use Rattle.name_tables.specs.Numbering.{number_in}
 use Rattle.plain_model.specs.declared.certificates.Flow.{Flow}
 use Rattle.plain_model.specs.declared.certificates.Weight.{Weight}
+use Rattle.plain_model.specs.declared.properties.Property.{Property}
 use Rattle.plain_model.specs.Plain.{AreDistinct}
 
 -- a flow, and the ids of the net's places in the order of their numbers
@@ -14,6 +15,11 @@ pub record FlowOver : Type 0 where
 pub record FlowsOver : Type 0 where
   pub ids : List (List ℕ)
   pub flows : List Flow
+
+-- a property, and those ids
+pub record PropertyOver : Type 0 where
+  pub ids : List (List ℕ)
+  pub property : Property
 
 -- these are the numbers of the weights' places
 abbrev pub AreNumbersOf : List (List ℕ) → List Weight → List ℕ → Type 0

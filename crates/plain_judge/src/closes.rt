@@ -13,12 +13,12 @@ ghost use Rattle.wide_sums.specs.Total.{zero_total};
 use crate::constants::constant_of_hypothesis;
 use crate::faults::{JudgeFault, NotYet, SumFault};
 use crate::numbered::{NumberedFlow, NumberedFlows};
+use crate::properties::NumberedProperty;
 use crate::residuals::{add_multiple, add_part, empty_coefficients, empty_sums, is_none_positive};
 use crate::settling::settle_weights;
-use crate::spreads::{spread_hypothesis, spread_on_zeros};
+use crate::spreads::spread_on_zeros;
 use name_tables::Name;
-use plain_model::{Certificate, Check, Multiplier, PlainNet, Property};
-use plain_rows::Numbers;
+use plain_model::{Certificate, Check, Multiplier, PlainNet};
 use std::alloc::Global;
 use wide_sums::{Sum, Wide};
 
@@ -77,47 +77,37 @@ fn add_named(
 
 /// Adds a multiple of the slack form of the negated invariant.
 fn add_hypothesis(
-    ids: &Numbers<'_>,
-    property: &Property,
+    property: &NumberedProperty<'_>,
     multiplier: i64,
-    coefficients: &mut [i64],
     sums: &mut [Sum],
 ) -> Result<i128, SumFault>
-    requires distinct { AreDistinct ids.now }
-    requires zeros { coefficients.old ≡ replicate (length ids.now) (pos 0) }
-    requires sums { length sums.old ≡ length ids.now }
-    ensures zeros { OnOk result (coefficients.new ≡ replicate (length ids.now) (pos 0)) }
-    ensures adds { IfOk result (AddsSlack ids.now multiplier (hypothesis_slack property.now) sums.old sums.new) }
-    ensures wide { result ≡ Err SumFault.Wide → IsSlackWide ids.now multiplier (hypothesis_slack property.now) sums.old }
+    requires sums { length sums.old ≡ length property.now.ids }
+    ensures adds { IfOk result (AddsSlack property.now.ids multiplier (hypothesis_slack property.now.property) sums.old sums.new) }
+    ensures wide { result ≡ Err SumFault.Wide → IsSlackWide property.now.ids multiplier (hypothesis_slack property.now.property) sums.old }
 {
-    match spread_hypothesis(ids, property, coefficients) {
-        Ok(()) => {}
-        Err(NotYet) => return Err(SumFault::NotYet),
+    match add_part(sums, multiplier, property.coefficients()) {
+        Ok(()) => Ok(constant_of_hypothesis(property.property())),
+        Err(Wide) => Err(SumFault::Wide),
     }
-    match add_part(sums, multiplier, coefficients) {
-        Ok(()) => {}
-        Err(Wide) => return Err(SumFault::Wide),
-    }
-    coefficients.fill(0);
-    Ok(constant_of_hypothesis(property))
 }
 
 /// Adds a multiple of the slack form that a summand multiplies, and gives the form's constant.
 fn add_slack(
     net: &PlainNet,
-    property: &Property,
+    property: &NumberedProperty<'_>,
     flows: &NumberedFlows<'_>,
     multiplier: &Multiplier,
     coefficients: &mut [i64],
     sums: &mut [Sum],
 ) -> Result<i128, SumFault>
     requires places { flows.now.ids ≡ place_ids net.now }
+    requires property { property.now.ids ≡ flows.now.ids }
     requires zeros { coefficients.old ≡ replicate (length flows.now.ids) (pos 0) }
     requires sums { length sums.old ≡ length flows.now.ids }
     requires in_range { AreInRange (length flows.now.ids) sums.old }
     ensures zeros { OnOk result (coefficients.new ≡ replicate (length flows.now.ids) (pos 0)) }
-    ensures adds { IfOk result (AddsSlack flows.now.ids (multiplier_of multiplier.now) (slack_of net.now property.now flows.now.flows multiplier.now) sums.old sums.new) }
-    ensures wide { result ≡ Err SumFault.Wide → IsSlackWide flows.now.ids (multiplier_of multiplier.now) (slack_of net.now property.now flows.now.flows multiplier.now) sums.old }
+    ensures adds { IfOk result (AddsSlack flows.now.ids (multiplier_of multiplier.now) (slack_of net.now property.now.property flows.now.flows multiplier.now) sums.old sums.new) }
+    ensures wide { result ≡ Err SumFault.Wide → IsSlackWide flows.now.ids (multiplier_of multiplier.now) (slack_of net.now property.now.property flows.now.flows multiplier.now) sums.old }
 {
     match multiplier {
         Multiplier::Fact(factor) => add_named(
@@ -128,13 +118,7 @@ fn add_slack(
             coefficients,
             sums,
         ),
-        Multiplier::Hypothesis { value, .. } => add_hypothesis(
-            flows.ids(),
-            property,
-            *value,
-            coefficients,
-            sums,
-        ),
+        Multiplier::Hypothesis { value, .. } => add_hypothesis(property, *value, sums),
     }
 }
 
@@ -161,20 +145,21 @@ fn has_right_sign(multiplier: &Multiplier) -> bool
 /// Adds up the summands: the residual's coefficients into the sums, and its constant.
 fn add_up(
     net: &PlainNet,
-    property: &Property,
+    property: &NumberedProperty<'_>,
     certificate: &Certificate,
     flows: &NumberedFlows<'_>,
     coefficients: &mut [i64],
     sums: &mut [Sum],
 ) -> Result<i128, SumFault>
     requires places { flows.now.ids ≡ place_ids net.now }
+    requires property { property.now.ids ≡ flows.now.ids }
     requires zeros { coefficients.old ≡ replicate (length flows.now.ids) (pos 0) }
     requires flows { flows.now.flows ≡ certificate.now.flows }
     requires empty { sums.old ≡ replicate (length flows.now.ids) zero_total }
-    ensures sums { OnOk result (AreResiduals flows.now.ids (parts net.now property.now certificate.now) sums.new) }
-    ensures value { IfOk result (λ value. value ≡ sum_of (residual_constant (parts net.now property.now certificate.now))) }
-    ensures fits { OnOk result (IsConstantInRange (parts net.now property.now certificate.now)) }
-    ensures wide { result ≡ Err SumFault.Wide → list_any is_wide (close_sums net.now (parts net.now property.now certificate.now)) ≡ true }
+    ensures sums { OnOk result (AreResiduals flows.now.ids (parts net.now property.now.property certificate.now) sums.new) }
+    ensures value { IfOk result (λ value. value ≡ sum_of (residual_constant (parts net.now property.now.property certificate.now))) }
+    ensures fits { OnOk result (IsConstantInRange (parts net.now property.now.property certificate.now)) }
+    ensures wide { result ≡ Err SumFault.Wide → list_any is_wide (close_sums net.now (parts net.now property.now.property certificate.now)) ≡ true }
 {
     let mut total = Sum::zero();
     for multiplier in certificate.close.as_slice() {
@@ -211,17 +196,18 @@ fn have_right_signs(multipliers: &[Multiplier]) -> bool
 /// Whether the `close` line, whose signs are right, refutes the negated invariant.
 fn check_sums(
     net: &PlainNet,
-    property: &Property,
+    property: &NumberedProperty<'_>,
     certificate: &Certificate,
     flows: &NumberedFlows<'_>,
     coefficients: &mut [i64],
     sums: &mut [Sum],
 ) -> Result<Check, JudgeFault>
     requires places { flows.now.ids ≡ place_ids net.now }
+    requires property { property.now.ids ≡ flows.now.ids }
     requires zeros { coefficients.old ≡ replicate (length flows.now.ids) (pos 0) }
     requires flows { flows.now.flows ≡ certificate.now.flows }
     requires empty { sums.old ≡ replicate (length flows.now.ids) zero_total }
-    ensures { IfOk result (λ check. check ≡ sums_check net.now property.now certificate.now) }
+    ensures { IfOk result (λ check. check ≡ sums_check net.now property.now.property certificate.now) }
 {
     match add_up(net, property, certificate, flows, coefficients, sums) {
         Ok(constant) => Ok(refutes(sums, constant)),
@@ -234,13 +220,14 @@ fn check_sums(
 pub fn check_close(
     alloc: Global,
     net: &PlainNet,
-    property: &Property,
+    property: &NumberedProperty<'_>,
     certificate: &Certificate,
     flows: &NumberedFlows<'_>,
 ) -> Result<Check, JudgeFault>
     requires places { flows.now.ids ≡ place_ids net.now }
+    requires property { property.now.ids ≡ flows.now.ids }
     requires flows { flows.now.flows ≡ certificate.now.flows }
-    ensures { IfOk result (λ check. check ≡ close_check net.now property.now certificate.now) }
+    ensures { IfOk result (λ check. check ≡ close_check net.now property.now.property certificate.now) }
 {
     if !have_right_signs(certificate.close.as_slice()) {
         return Ok(Check::False);

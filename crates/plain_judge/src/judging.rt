@@ -9,7 +9,8 @@ use crate::examining::examine;
 use crate::faults::JudgeFault;
 use crate::flows::judge_flows;
 use crate::numbered::NumberedFlows;
-use plain_model::{Certificate, Check, Judged, PlainNet, Property, Spot};
+use crate::properties::NumberedProperty;
+use plain_model::{Certificate, Check, Judged, PlainNet, Spot};
 use plain_rows::PlainRows;
 use pt_net::PtNet;
 use std::alloc::Global;
@@ -19,14 +20,15 @@ fn judge_all(
     alloc: Global,
     net: &PlainNet,
     system: &PtNet,
-    property: &Property,
+    property: &NumberedProperty<'_>,
     certificate: &Certificate,
     flows: &NumberedFlows<'_>,
 ) -> Result<Judged, JudgeFault>
     requires places { flows.now.ids ≡ place_ids net.now }
+    requires property { property.now.ids ≡ flows.now.ids }
     requires rows { AreRowsOf net.now system.now }
     requires flows { flows.now.flows ≡ certificate.now.flows }
-    ensures { IfOk result (λ judged. judged ≡ judgement net.now property.now certificate.now) }
+    ensures { IfOk result (λ judged. judged ≡ judgement net.now property.now.property certificate.now) }
 {
     match judge_flows(alloc, net, flows, system) {
         Ok(Judged::Shown) => {}
@@ -45,22 +47,24 @@ fn judge_all(
 /// Judges the certificate for the property on the net: the first obligation in the order of the
 /// flows, each with each transition, and then `close`, that isn't true decides.
 ///
-/// `rows` are those that `plain_rows::build` gives for the net. `NotYet` comes where the certificate
-/// isn't of the first grammar for this net and property, or the property names no places of the net.
+/// `rows` are those that `plain_rows::build` gives for the net, and the property is numbered by the
+/// ids of its places. `NotYet` comes where the certificate isn't of the first grammar for this net
+/// and property.
 pub fn judge(
     alloc: Global,
     net: &PlainNet,
     rows: &PlainRows<'_>,
-    property: &Property,
+    property: &NumberedProperty<'_>,
     certificate: &Certificate,
 ) -> Result<Judged, JudgeFault>
     requires plain { IsPlainNet net.now }
     requires places { rows.now.places ≡ place_ids net.now }
     requires rows { AreRowsOf net.now rows.now.net }
-    ensures plain { OnOk result (IsPlainCertificate net.now property.now certificate.now) }
-    ensures judged { IfOk result (λ judged. judged ≡ judgement net.now property.now certificate.now) }
+    requires property { property.now.ids ≡ place_ids net.now }
+    ensures plain { OnOk result (IsPlainCertificate net.now property.now.property certificate.now) }
+    ensures judged { IfOk result (λ judged. judged ≡ judgement net.now property.now.property certificate.now) }
 {
     let flows = NumberedFlows::new(alloc, &rows.places, certificate.flows.as_slice())?;
-    examine(alloc, net, property, certificate, &flows)?;
+    examine(alloc, net, property.property(), certificate, &flows)?;
     judge_all(alloc, net, &rows.net, property, certificate, &flows)
 }

@@ -14,6 +14,7 @@ mod judging;
 mod marks;
 mod naming;
 mod numbered;
+mod properties;
 mod residuals;
 mod searches;
 mod settling;
@@ -24,3 +25,4 @@ mod tests;
 
 pub use faults::JudgeFault;
 pub use judging::judge;
+pub use properties::NumberedProperty;

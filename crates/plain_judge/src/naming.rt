@@ -16,7 +16,7 @@ pub fn names_of<'a>(alloc: Global, flows: &'a [Flow]) -> Result<Numbers<'a>, Jud
     ensures names { IfOk result (λ names. names ≡ map (λ flow. flow.name) flows.now) }
     ensures distinct { IfOk result AreDistinct }
 {
-    let mut names = Numbers::new(alloc);
+    let mut names = Numbers::with_capacity(alloc, flows.len())?;
     for flow in flows {
         if names.count() >= u32::MAX - 1 {
             return Err(JudgeFault::NotYet);
@@ -32,12 +32,17 @@ pub fn names_of<'a>(alloc: Global, flows: &'a [Flow]) -> Result<Numbers<'a>, Jud
 
 /// The number of the place of each weight. `NotYet` comes where one isn't there.
 fn places_of(alloc: Global, ids: &Numbers<'_>, weights: &[Weight]) -> Result<Items<u32>, JudgeFault>
+    requires { AreDistinct ids.now }
     ensures { IfOk result (AreNumbersOf ids.now weights.now) }
 {
     let mut places = Items::from_vec(Vec::with_capacity(alloc, weights.len())?);
+    let mut guess = 0u32;
     for weight in weights {
-        match ids.find(weight.place.bytes()) {
-            Some(place) => places.push(place)?,
+        match ids.find_near(weight.place.bytes(), guess) {
+            Some(place) => {
+                places.push(place)?;
+                guess = place.wrapping_add(1);
+            }
             None => return Err(JudgeFault::NotYet),
         }
     }
@@ -50,6 +55,7 @@ pub fn places_of_flows(
     ids: &Numbers<'_>,
     flows: &[Flow],
 ) -> Result<Items<Items<u32>>, JudgeFault>
+    requires { AreDistinct ids.now }
     ensures { IfOk result (ArePlacesOf ids.now flows.now) }
 {
     let mut places = Items::from_vec(Vec::with_capacity(alloc, flows.len())?);

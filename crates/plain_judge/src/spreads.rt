@@ -1,14 +1,17 @@
 //! Coefficients as a list with one number per place.
-ghost use Rattle.std.specs.Prelude.{◌≡◌, ◌<◌, length, map, pos, replicate, ◌*ℤ◌, OnOk};
+ghost use Rattle.std.specs.Prelude.{◌≡◌, ◌<◌, length, map, pos, replicate, ◌*ℤ◌, All, Contains, OnOk};
 ghost use Rattle.plain_judge.specs.Coefficients.{Raises, raised};
 ghost use Rattle.plain_model.specs.Forms.{hypothesis_slack, times_in, times_listed, weight_on};
-ghost use Rattle.plain_model.specs.Plain.{AreDistinct};
+ghost use Rattle.plain_model.specs.Plain.{AreDistinct, IsPlainCount};
 
 use crate::faults::NotYet;
 use crate::numbered::NumberedFlow;
 use name_tables::Name;
 use plain_model::{Count, Property};
 use plain_rows::Numbers;
+
+// 2^63 - 1, the largest number of a count.
+const MAX_NUMBER: u64 = 9_223_372_036_854_775_807;
 
 /// Adds a value to the coefficient of one place.
 fn raise(coefficients: &mut [i64], place: usize, value: i64) -> Result<(), NotYet>
@@ -46,18 +49,24 @@ fn add_listed(
 ) -> Result<(), NotYet>
     requires distinct { AreDistinct ids.now }
     requires long { length coefficients.old ≡ length ids.now }
-    ensures { OnOk result (Raises ids.now (λ id. value *ℤ pos (times_in listed.now id)) coefficients.old coefficients.new) }
+    ensures known { OnOk result (All (Contains ids.now) listed.now) }
+    ensures raised { OnOk result (Raises ids.now (λ id. value *ℤ pos (times_in listed.now id)) coefficients.old coefficients.new) }
 {
+    let mut guess = 0u32;
     for name in listed {
-        match ids.find(name.bytes()) {
-            Some(place) => raise(coefficients, place as usize, value)?,
+        match ids.find_near(name.bytes(), guess) {
+            Some(place) => {
+                raise(coefficients, place as usize, value)?;
+                guess = place.wrapping_add(1);
+            }
             None => return Err(NotYet),
         }
     }
     Ok(())
 }
 
-/// Adds a value to the coefficient of each place that the count lists.
+/// Adds a value to the coefficient of each place that the count lists. `NotYet` comes where its
+/// number is out of range, where it lists none, or one that isn't there.
 fn add_count(
     ids: &Numbers<'_>,
     count: &Count,
@@ -66,11 +75,20 @@ fn add_count(
 ) -> Result<(), NotYet>
     requires distinct { AreDistinct ids.now }
     requires long { length coefficients.old ≡ length ids.now }
-    ensures { OnOk result (Raises ids.now (λ id. value *ℤ pos (times_listed count.now id)) coefficients.old coefficients.new) }
+    ensures plain { OnOk result (IsPlainCount ids.now count.now) }
+    ensures raised { OnOk result (Raises ids.now (λ id. value *ℤ pos (times_listed count.now id)) coefficients.old coefficients.new) }
 {
     match count {
-        Count::Number(_) => Ok(()),
+        Count::Number(number) => {
+            if *number > MAX_NUMBER {
+                return Err(NotYet);
+            }
+            Ok(())
+        }
         Count::Tokens(listed) => {
+            if listed.is_empty() {
+                return Err(NotYet);
+            }
             add_listed(ids, listed.as_slice(), value, coefficients)?;
             Ok(())
         }
@@ -97,17 +115,18 @@ pub fn clear_weights(flow: &NumberedFlow<'_>, coefficients: &mut [i64])
     }
 }
 
-/// Writes the coefficients of the negated invariant, in place of what stood there.
+/// Adds the coefficients of the negated invariant to coefficients that all are 0.
 pub fn spread_hypothesis(
     ids: &Numbers<'_>,
     property: &Property,
     coefficients: &mut [i64],
 ) -> Result<(), NotYet>
     requires distinct { AreDistinct ids.now }
-    requires long { length coefficients.old ≡ length ids.now }
-    ensures { OnOk result (coefficients.new ≡ map (hypothesis_slack property.now).coefficient ids.now) }
+    requires zeros { coefficients.old ≡ replicate (length ids.now) (pos 0) }
+    ensures left { OnOk result (IsPlainCount ids.now property.now.left) }
+    ensures right { OnOk result (IsPlainCount ids.now property.now.right) }
+    ensures spread { OnOk result (coefficients.new ≡ map (hypothesis_slack property.now).coefficient ids.now) }
 {
-    coefficients.fill(0);
     add_count(ids, &property.left, 1, coefficients)?;
     add_count(ids, &property.right, -1, coefficients)?;
     Ok(())

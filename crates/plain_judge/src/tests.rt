@@ -1,10 +1,14 @@
+ghost use Rattle.std.specs.Prelude.{◌≡◌};
+ghost use Rattle.plain_model.specs.Plain.{IsPlainNet, place_ids};
+ghost use Rattle.plain_rows.specs.Rows.{AreRowsOf};
+
 use super::*;
 use name_tables::Name;
 use plain_model::{
     Arc, Certificate, Count, Factor, Flow, Judged, Multiplier, Place, PlainNet, Property, Spot,
     Weight,
 };
-use plain_rows::build;
+use plain_rows::{PlainRows, build};
 use sqlite_items::Items;
 use std::alloc::Global;
 use std::test::Fail;
@@ -77,6 +81,22 @@ fn certificate(alloc: Global, second: &[u8], value: i64) -> Result<Certificate, 
     })
 }
 
+// The judgement of the certificate for the property `q <= 1`.
+fn judged_on(
+    alloc: Global,
+    net: &PlainNet,
+    rows: &PlainRows<'_>,
+    certificate: &Certificate,
+) -> Result<Result<Judged, JudgeFault>, Fail>
+    requires plain { IsPlainNet net.now }
+    requires places { rows.now.places ≡ place_ids net.now }
+    requires rows { AreRowsOf net.now rows.now.net }
+{
+    let property = at_most_one(alloc)?;
+    let numbered = NumberedProperty::new(alloc, &rows.places, &property)?;
+    Ok(judge(alloc, net, rows, &numbered, certificate))
+}
+
 // The judgement of the certificate with this second place and its coefficient.
 fn judged_with(
     alloc: Global,
@@ -85,9 +105,8 @@ fn judged_with(
 ) -> Result<Result<Judged, JudgeFault>, Fail> {
     let net = mover(alloc)?;
     let rows = build(alloc, &net)?;
-    let property = at_most_one(alloc)?;
     let certificate = certificate(alloc, second, value)?;
-    Ok(judge(alloc, &net, &rows, &property, &certificate))
+    judged_on(alloc, &net, &rows, &certificate)
 }
 
 #[test]

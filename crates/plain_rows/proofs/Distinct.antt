@@ -1,5 +1,5 @@
 -- Distinct names, and the numbers that they have.
-use Rattle.std.proofs.Common.{◌≡◌, ◌≢◌, ℕ, ◌+◌, ◌-◌, ◌<◌, ◌≤◌, true, List, [], ◌∷◌, ◌++◌, length, map, take, get_or, None, Some, arith, ap, append_assoc, subst, sym, refl, ◌∙◌}
+use Rattle.std.proofs.Common.{◌≡◌, ◌≢◌, ℕ, ◌+◌, ◌-◌, ◌<◌, ◌≤◌, true, List, [], ◌∷◌, ◌++◌, length, map, take, get_or, Option, None, Some, ◌⊎◌, inl, inr, arith, ap, append_assoc, subst, sym, refl, ◌∙◌}
 use Rattle.std.specs.Prelude.{All, slice_get}
 use Rattle.std.specs.Str.{bytes_eq}
 use Rattle.std.proofs.lemmas.Cmp.{nat_list_eq_equiv}
@@ -7,11 +7,23 @@ use Rattle.std.proofs.lemmas.List.{get_or_append_left, get_or-append_right, leng
 use Rattle.std.proofs.lemmas.List.Folds.{list_any_at}
 use Rattle.std.proofs.lemmas.List.Elements.{All-more}
 use Rattle.std.proofs.lemmas.List.Quantifiers.{all_pairs_push, position-Some}
-use Rattle.std.proofs.lemmas.Option.{none-some, slice_get-get_or}
+use Rattle.std.proofs.lemmas.Option.{none-some, slice_get-get_or, slice_get_within, get_or_from_slice_get}
 use Rattle.std.proofs.lemmas.Slice.Eq.{bytes_eq-Decides}
 use Rattle.name_tables.specs.Numbering.{number_in}
 use Rattle.name_tables.proofs.Places.{position_some}
 use Rattle.plain_model.specs.Plain.{AreDistinct}
+
+pub compared : (a b : ℕ) → (a ≡ b) ⊎ ((a < b) ⊎ (b < a))
+compared a b = grind arith
+
+-- one name stands at one place
+pub same_place : (names : List (List ℕ)) (q place : ℕ) → AreDistinct names → q < length names → place < length names → get_or names q [] ≡ get_or names place [] → q ≡ place
+same_place names q place distinct within there same = cases (compared q place)
+  where
+    cases : (q ≡ place) ⊎ ((q < place) ⊎ (place < q)) → q ≡ place
+    cases (inl e) = e
+    cases (inr (inl below)) = absurd (distinct q place [] below there same)
+    cases (inr (inr above)) = absurd (distinct place q [] above within (sym same))
 
 -- a name that has no number is none of the names
 pub fresh : (names : List (List ℕ)) (name : List ℕ) → number_in names name ≡ None → All (λ other. other ≢ name) names
@@ -23,10 +35,26 @@ pub distinct_push : (names : List (List ℕ)) (name : List ℕ) → AreDistinct 
 distinct_push names name distinct none = all_pairs_push (λ one other. one ≢ other) names name distinct (fresh names name none)
 
 -- the name at a number that was found
-named : (names : List (List ℕ)) (name : List ℕ) (at : ℕ) (d : List ℕ) → number_in names name ≡ Some at → (at < length names) × (get_or names at d ≡ name)
+pub named : (names : List (List ℕ)) (name : List ℕ) (at : ℕ) (d : List ℕ) → number_in names name ≡ Some at → (at < length names) × (get_or names at d ≡ name)
 named names name at d found =
     let here = position-Some (bytes_eq name) names at d found in
     (here.0, sym ((bytes_eq-Decides name (get_or names at d)).0 here.1))
+
+-- the number of the name at a place
+pub numbered_at : (names : List (List ℕ)) (name : List ℕ) (at : ℕ) → AreDistinct names → slice_get names at ≡ Some name → number_in names name ≡ Some at
+numbered_at names name at distinct there = cases (number_in names name) refl
+  where
+    within : at < length names
+    within = slice_get_within names at name there
+
+    same : get_or names at [] ≡ name
+    same = get_or_from_slice_get names at name [] there
+
+    cases : (found : Option ℕ) → number_in names name ≡ found → found ≡ Some at
+    cases None none = absurd (fresh names name none at [] within same)
+    cases (Some other) found =
+        let here = named names name other [] found in
+        ap Some (same_place names other at distinct here.0 within (here.1 ∙ sym same))
 
 -- a number among the first names
 pub named_first : (firsts seconds rest : List (List ℕ)) (name : List ℕ) (at : ℕ) → number_in (firsts ++ seconds ++ rest) name ≡ Some at → at < length firsts → slice_get firsts at ≡ Some name

@@ -27,8 +27,9 @@ pub struct PlainRows<'a> {
 fn number_places<'a>(alloc: Global, net: &'a PlainNet) -> Result<Numbers<'a>, BuildFault>
     ensures { IfOk result (λ ids. ids ≡ place_ids net.now) }
 {
-    let mut ids = Numbers::new(alloc);
-    add_places(&mut ids, net.places.as_slice())?;
+    let places = net.places.as_slice();
+    let mut ids = Numbers::with_capacity(alloc, places.len())?;
+    add_places(&mut ids, places)?;
     Ok(ids)
 }
 

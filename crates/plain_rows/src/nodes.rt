@@ -1,4 +1,5 @@
-ghost use Rattle.std.specs.Prelude.{◌≡◌, ◌++◌, [], ◌∷◌, ◌<◌, ◌^◌, map, All, OnOk, IfOk, IfSome};
+ghost use Rattle.std.specs.Prelude.{◌≡◌, ℕ, ◌++◌, List, [], ◌∷◌, ◌<◌, ◌^◌, map, Some, All, OnOk, IfOk, IfSome};
+ghost use Rattle.name_tables.specs.Numbering.{number_in};
 ghost use Rattle.plain_model.specs.Plain.{IsId, node_ids, place_ids};
 ghost use Rattle.plain_rows.specs.Nodes.{IsNode, IsFreshPlace, IsFreshArc, AreNumbered, AreNodes};
 
@@ -81,28 +82,33 @@ fn add_arcs<'a>(ids: &mut Numbers<'a>, arcs: &'a [Arc]) -> Result<(), BuildFault
     Ok(())
 }
 
+/// How many nodes the net has.
+fn node_count(net: &PlainNet) -> usize {
+    let ends = net.places.len().saturating_add(net.transitions.len());
+    ends.saturating_add(net.arcs.len())
+}
+
 /// Numbers all nodes of the net: its places, its transitions and its arcs, in this order.
 pub fn number_nodes<'a>(alloc: Global, net: &'a PlainNet) -> Result<Numbers<'a>, BuildFault>
     ensures nodes { IfOk result (λ ids. ids ≡ node_ids net.now) }
     ensures in_form { OnOk result (AreNodes net.now) }
 {
-    let mut ids = Numbers::new(alloc);
+    let mut ids = Numbers::with_capacity(alloc, node_count(net))?;
     add_places(&mut ids, net.places.as_slice())?;
     add_transitions(&mut ids, net.transitions.as_slice())?;
     add_arcs(&mut ids, net.arcs.as_slice())?;
     Ok(ids)
 }
 
-/// The node with this id among the numbered nodes of the net, `None` where no place and no
-/// transition has it.
-pub fn node_of(nodes: &Numbers<'_>, net: &PlainNet, id: &Name) -> Option<Node>
-    requires { nodes.now ≡ node_ids net.now }
-    ensures { IfSome result (IsNode net.now id.now) }
+/// The node with this number among the nodes of the net, `None` where it is no place and no
+/// transition.
+pub fn node_at(net: &PlainNet, number: u32) -> Option<Node>
+    ensures { (id : List ℕ) → number_in (node_ids net.now) id ≡ Some number → IfSome result (IsNode net.now id) }
 {
-    let at = nodes.find(id.bytes())? as usize;
+    let at = number as usize;
     let places = net.places.len();
     if at < places {
-        return Some(Node::Place(at as u32));
+        return Some(Node::Place(number));
     }
     if at - places < net.transitions.len() {
         return Some(Node::Transition((at - places) as u32));

@@ -1,5 +1,7 @@
-ghost use Rattle.std.specs.Prelude.{◌≡◌, ◌<◌, ◌-◌, ◌^◌, [], length, IfOk, OnErr};
+ghost use Rattle.std.specs.Prelude.{◌≡◌, ◌<◌, ◌-◌, ◌^◌, [], length, slice_get, Some, IfOk, OnErr};
+ghost use Rattle.std.specs.Bool.{OnTrue};
 ghost use Rattle.name_tables.specs.Numbering.{IsAdded, number_in};
+ghost use Rattle.plain_model.specs.Plain.{AreDistinct};
 
 use indexmap::IndexSet;
 use name_tables::Added;
@@ -25,13 +27,13 @@ impl<'a> Model for Numbers<'a> {
 }
 
 impl<'a> Numbers<'a> {
-    /// No names; this takes no memory.
-    pub fn new(alloc: Global) -> Numbers<'a>
-        ensures { result ≡ [] }
+    /// No names, with room for so many.
+    pub fn with_capacity(alloc: Global, count: usize) -> Result<Numbers<'a>, Memory>
+        ensures { IfOk result (λ numbers. numbers ≡ []) }
     {
-        Numbers {
-            set: IndexSet::new(alloc),
-        }
+        Ok(Numbers {
+            set: IndexSet::with_capacity(alloc, count)?,
+        })
     }
 
     /// Adds a name, or finds the number that it has. After an error the names are as before.
@@ -55,6 +57,28 @@ impl<'a> Numbers<'a> {
         match self.set.get_index_of(name) {
             Some(at) => Some(at as u32),
             None => None,
+        }
+    }
+
+    /// The number of a name, or `None` where it is not there. The name is looked for at `guess`
+    /// first, which is quick where names are asked for in the order of their numbers.
+    pub fn find_near(&self, name: &[u8], guess: u32) -> Option<u32>
+        requires { AreDistinct self.now }
+        ensures { result ≡ number_in self.now name.now }
+    {
+        if self.is_at(name, guess) {
+            return Some(guess);
+        }
+        self.find(name)
+    }
+
+    /// Whether the name has this number.
+    fn is_at(&self, name: &[u8], number: u32) -> bool
+        ensures { OnTrue result (slice_get self.now number ≡ Some name.now) }
+    {
+        match self.set.get_index(number as usize) {
+            Some(there) => *there == name,
+            None => false,
         }
     }
 

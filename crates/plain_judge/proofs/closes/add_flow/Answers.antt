@@ -4,7 +4,7 @@ use mir.Syntax.{w128}
 use Rattle.wide_sums.specs.Total.{total_of}
 use Rattle.plain_model.specs.Sums.{sum_of, products}
 use Rattle.plain_judge.specs.Residuals.{AddsPart, FitPart, markings}
-use Rattle.plain_model.specs.Forms.{flow_slack, weight_on}
+use Rattle.plain_model.specs.Forms.{flow_slack}
 use Rattle.plain_judge.proofs.Settled.{settled_wide}
 use Rattle.plain_judge.proofs.Slacks.{constant_by_places}
 use Rattle.plain_judge.proofs.closes.add_flow.Goals as goal

@@ -4,5 +4,5 @@ use Rattle.plain_judge.proofs.closes.add_up.Given as goal
 
 abbrev pub invariant-loop-multiplier : goal.invariant-loop-multiplier
 invariant-loop-multiplier l =
-    IsAddedUp l.net l.property l.certificate l.flows.ids (take l.multiplier-index l.certificate.close) l.sums l.total
+    IsAddedUp l.net l.property.property l.certificate l.flows.ids (take l.multiplier-index l.certificate.close) l.sums l.total
     × (l.coefficients ≡ replicate (length l.flows.ids) (pos 0))

@@ -1,4 +1,4 @@
-use Rattle.std.proofs.Common.{◌≡◌, ◌<◌, ◌∙◌, All, List, ℕ, length, arith, ap, subst}
+use Rattle.std.proofs.Common.{◌<◌, ◌∙◌, All, List, ℕ, length, arith, subst}
 use Rattle.std.proofs.lemmas.List.{take_all}
 use Rattle.plain_rows.proofs.Distinct.{all_more}
 use Rattle.plain_model.specs.Plain.{IsPlainFlow}

@@ -1,4 +1,4 @@
-use Rattle.std.proofs.Common.{◌<◌, ◌^◌, ◌+◌, ◌++◌, ◌∷◌, [], take, All, List, sym, subst, ap, ◌∙◌, rules}
+use Rattle.std.proofs.Common.{◌<◌, ◌^◌, ◌++◌, ◌∷◌, [], take, All, List, sym, subst, ap, ◌∙◌, rules}
 use Rattle.std.specs.Prelude.{AllPairs, unsigned_abs}
 use Rattle.std.proofs.lemmas.List.{take_all, take_more}
 use Rattle.name_tables.specs.Numbering.{number_in}

@@ -1,4 +1,4 @@
-use Rattle.std.proofs.Common.{◌≡◌, ◌<◌, ◌^◌, ◌+◌, ◌++◌, ◌∷◌, [], map, take, get_or, length, All, List, sym, subst, ap, ◌∙◌, arith, rules}
+use Rattle.std.proofs.Common.{◌≡◌, ◌<◌, ◌^◌, ◌++◌, ◌∷◌, [], map, take, get_or, length, All, List, sym, subst, ap, ◌∙◌, arith, rules}
 use Rattle.std.specs.Prelude.{slice_set, unsigned_abs}
 use Rattle.std.proofs.lemmas.List.{take_all, map_more, length-set}
 use Rattle.name_tables.specs.Numbering.{number_in}

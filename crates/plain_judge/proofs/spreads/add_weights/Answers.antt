@@ -1,4 +1,4 @@
-use Rattle.std.proofs.Common.{◌≡◌, ◌+◌, ◌<◌, length, get_or, take, ◌++◌, ◌∷◌, [], Some, sym, ap, subst, ◌∙◌, rules, FitsSigned, w64, arith}
+use Rattle.std.proofs.Common.{◌≡◌, ◌+◌, ◌<◌, length, get_or, take, ◌++◌, ◌∷◌, [], sym, ap, subst, ◌∙◌, rules, FitsSigned, w64, arith}
 use mir.Facts.{to_z-of_z}
 use Rattle.std.proofs.lemmas.List.{take_more}
 use Rattle.name_tables.specs.Numbering.{number_in}
