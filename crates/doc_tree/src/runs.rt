@@ -50,6 +50,7 @@ fn ended_name(opens: &Stack, bytes: &[u8]) -> Option<usize>
 
 /// Bytes at the front that stand for themselves in a text, a value, a name, a comment or an instruction, taken in one go, and how
 /// many they are. Of an end tag it is the whole name.
+#[inline(never)]
 pub fn take_run(place: &mut Place, opens: &mut Stack, bytes: &[u8]) -> Result<usize, Memory>
     ensures within { IfOk result (λ n. n ≤ length bytes.now) }
     ensures read { IfOk result (λ n. (r : Option Element) (count : ℕ) (b : List ℕ) → HasReadBy None (state place.old part.Whole opens.old r) count b

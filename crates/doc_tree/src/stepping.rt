@@ -5,7 +5,7 @@ ghost use Rattle.doc_tree.specs.declared.places.Place.TheVariants as place;
 ghost use Rattle.doc_tree.specs.declared.places.Part.TheVariants as part;
 ghost use Rattle.doc_tree.specs.Documents.{are_white, shown};
 ghost use Rattle.doc_tree.specs.Characters.{is_tail, utf8};
-ghost use Rattle.doc_tree.specs.Machine.{after_end, after_key, after_tag, chosen, closed, element_of, empty_element, lead_at, named, opened, refused, stay, state, step, step_at, taken, takes, test};
+ghost use Rattle.doc_tree.specs.Machine.{after_end, after_key, after_tag, begin_name, chosen, closed, element_of, empty_element, lead_at, named, opened, refused, stay, state, step, step_at, taken, takes, test};
 
 use crate::attributes::Attributes;
 use crate::characters::{
@@ -58,6 +58,42 @@ fn close(
     Ok(())
 }
 
+/// The place becomes this one.
+#[inline(never)]
+fn put_place(into: &mut Place, next: Place)
+    ensures { into.new ≡ next }
+{
+    *into = next;
+}
+
+/// No document begins with the bytes up to the one at the offset.
+#[cold]
+#[inline(never)]
+fn refuse(into: &mut Place, at: u64)
+    ensures { into.new ≡ place.Refused at }
+{
+    put_place(into, Place::Refused(at));
+}
+
+/// The name, taken out of where it stands.
+fn take_name(alloc: Global, name: &mut Name) -> Name
+    ensures { result ≡ name.old }
+{
+    mem::replace(name, Name::from(Vec::new(alloc)))
+}
+
+/// The tag, taken out of where it stands.
+fn take_tag(alloc: Global, tag: &mut Tag) -> Tag
+    ensures { result ≡ tag.old }
+{
+    let nothing = Tag {
+        at: 0,
+        name: Name::from(Vec::new(alloc)),
+        attributes: Attributes::new(alloc),
+    };
+    mem::replace(tag, nothing)
+}
+
 /// A whole character of these bytes, or a reference to it, at a place that takes it.
 fn take(alloc: Global, opens: &mut Stack, place: Place, characters: &[u8]) -> Result<Place, Memory>
     ensures { IfOk result (λ p. (r : Option Element) → state p part.Whole opens.new r ≡ chosen (taken place opens.old r characters.now)) }
@@ -103,56 +139,101 @@ fn outside(at: u64, byte: u8) -> Place
     Place::Refused(at)
 }
 
-fn between(opens: &mut Stack, at: u64, byte: u8) -> Result<(Place, Part), Memory>
-    ensures { IfOk result (λ s. (r : Option Element) → state s.0 s.1 opens.new r ≡ chosen (step_at place.Between opens.old r at byte)) }
+/// Between two tokens, where the place stands.
+#[inline(never)]
+fn step_between(opens: &mut Stack, into: &mut Place, at: u64, byte: u8) -> Result<Part, Memory>
+    requires { into.old ≡ place.Between }
+    ensures { IfOk result (λ q. (r : Option Element) → state into.new q opens.new r ≡ chosen (step_at place.Between opens.old r at byte)) }
 {
     match opens.innermost() {
-        None => Ok((outside(at, byte), Part::Whole)),
+        None => {
+            let next = outside(at, byte);
+            put_place(into, next);
+            Ok(Part::Whole)
+        }
         Some(_) => {
             if is_text(byte) {
                 opens.add_text(&[byte])?;
-                return Ok((Place::Between, Part::Whole));
+                return Ok(Part::Whole);
             }
             if byte == b'<' {
-                return Ok((Place::Less(at), Part::Whole));
+                put_place(into, Place::Less(at));
+                return Ok(Part::Whole);
             }
             if byte == b'&' {
-                return Ok((Place::Between, Part::Reference));
+                return Ok(Part::Reference);
             }
-            Ok((Place::Refused(at), Part::Whole))
+            refuse(into, at);
+            Ok(Part::Whole)
         }
     }
 }
 
-fn less(
+/// A name of this byte so far, with room for some more.
+fn first_of_name(alloc: Global, byte: u8) -> Result<Name, Memory>
+    ensures { IfOk result (λ name. name ≡ byte ∷ []) }
+{
+    let mut name = Name::from(Vec::with_capacity(alloc, 16)?);
+    name.push(byte)?;
+    Ok(name)
+}
+
+/// The first character of a name behind a `<`: a second root is refused.
+#[inline(never)]
+fn begin_name(
     alloc: Global,
-    opens: &Stack,
     root: &Option<Element>,
+    into: &mut Place,
     from: u64,
     at: u64,
     byte: u8,
-) -> Result<Place, Memory>
-    ensures { IfOk result (λ p. state p part.Whole opens.now root.now ≡ chosen (step_at (place.Less from) opens.now root.now at byte)) }
+) -> Result<(), Memory>
+    ensures { OnOk result ((os : List Open) → state into.new part.Whole os root.now ≡ chosen (begin_name from os root.now at byte)) }
+{
+    match root {
+        None => {
+            let name = first_of_name(alloc, byte)?;
+            put_place(into, Place::TagName(from, name));
+            Ok(())
+        }
+        Some(_) => {
+            refuse(into, at);
+            Ok(())
+        }
+    }
+}
+
+/// Behind a `<` at an offset, where the place stands.
+#[inline(never)]
+fn step_less(
+    alloc: Global,
+    opens: &Stack,
+    root: &Option<Element>,
+    into: &mut Place,
+    from: u64,
+    at: u64,
+    byte: u8,
+) -> Result<Part, Memory>
+    ensures { IfOk result (λ q. state into.new q opens.now root.now ≡ chosen (step_at (place.Less from) opens.now root.now at byte)) }
 {
     if is_name_start(byte) {
-        return match root {
-            None => Ok(Place::TagName(from, Name::new(alloc, &[byte])?)),
-            Some(_) => Ok(Place::Refused(at)),
-        };
+        begin_name(alloc, root, into, from, at, byte)?;
+        return Ok(Part::Whole);
     }
     if byte == b'!' {
-        return Ok(Place::Bang);
+        put_place(into, Place::Bang);
+        return Ok(Part::Whole);
     }
     if byte == b'?' {
-        return Ok(Place::Question);
+        put_place(into, Place::Question);
+        return Ok(Part::Whole);
     }
-    if byte == b'/' {
-        return match opens.innermost() {
-            None => Ok(Place::Refused(at)),
-            Some(_) => Ok(Place::Close(0)),
-        };
+    if byte == b'/' && opens.innermost().is_some() {
+        put_place(into, Place::Close(0));
+        return Ok(Part::Whole);
     }
-    Ok(Place::Refused(at))
+    refuse(into, at);
+    Ok(Part::Whole)
 }
 
 /// Behind a start tag's name, white or value.
@@ -209,7 +290,7 @@ fn blank(alloc: Global, opens: &mut Stack, tag: Tag, at: u64, byte: u8) -> Resul
     ensures { IfOk result (λ p. (r : Option Element) → state p part.Whole opens.new r ≡ chosen (step_at (place.Blank tag) opens.old r at byte)) }
 {
     if is_name_start(byte) {
-        return Ok(Place::Key(tag, Name::new(alloc, &[byte])?));
+        return Ok(Place::Key(tag, first_of_name(alloc, byte)?));
     }
     after_tag(alloc, opens, tag, at, byte)
 }
@@ -484,11 +565,19 @@ fn ascii_step(
     ensures { IfOk result (λ s. state s.0 s.1 opens.new root.new ≡ chosen (step_at place opens.old root.old at byte)) }
 {
     let next = match place {
-        Place::Between => return between(opens, at, byte),
+        Place::Between => {
+            let mut next = Place::Between;
+            let part = step_between(opens, &mut next, at, byte)?;
+            return Ok((next, part));
+        }
         Place::Value(tag, key, quote, value) => {
             return value_byte(alloc, tag, key, quote, value, at, byte);
         }
-        Place::Less(from) => less(alloc, opens, root, from, at, byte)?,
+        Place::Less(from) => {
+            let mut next = Place::Between;
+            let part = step_less(alloc, opens, root, &mut next, from, at, byte)?;
+            return Ok((next, part));
+        }
         Place::TagName(from, name) => tag_name(alloc, opens, from, name, at, byte)?,
         Place::Blank(tag) => blank(alloc, opens, tag, at, byte)?,
         Place::Key(tag, name) => key(tag, name, at, byte)?,
@@ -531,37 +620,69 @@ fn takes(opens: &Stack, root: &Option<Element>, place: &Place) -> bool
     }
 }
 
+/// A whole character of these bytes, or a reference to it, put where the place stands.
+#[inline(never)]
+fn take_in_place(
+    alloc: Global,
+    opens: &mut Stack,
+    place: &mut Place,
+    characters: &[u8],
+) -> Result<(), Memory>
+    ensures { OnOk result ((r : Option Element) → state place.new part.Whole opens.new r ≡ chosen (taken place.old opens.old r characters.now)) }
+{
+    match place {
+        Place::Between => {
+            opens.add_text(characters)?;
+            Ok(())
+        }
+        Place::Value(_, _, _, value) => {
+            value.append(characters)?;
+            Ok(())
+        }
+        _ => {
+            let whole = mem::replace(place, Place::Between);
+            let next = take(alloc, opens, whole, characters)?;
+            put_place(place, next);
+            Ok(())
+        }
+    }
+}
+
 /// A byte that may begin a character past ASCII, where no part was read.
+#[inline(never)]
 fn lead(
     alloc: Global,
     opens: &mut Stack,
     root: &mut Option<Element>,
-    place: Place,
+    place: &mut Place,
     at: u64,
     byte: u8,
-) -> Result<(Place, Part), Memory>
-    ensures { IfOk result (λ s. state s.0 s.1 opens.new root.new ≡ chosen (lead_at place opens.old root.old at byte)) }
+) -> Result<Part, Memory>
+    ensures { IfOk result (λ q. state place.new q opens.new root.new ≡ chosen (lead_at place.old opens.old root.old at byte)) }
 {
     match place {
         Place::Close(read) => {
-            let next = close_name(alloc, opens, root, read, at, byte)?;
-            Ok((next, Part::Whole))
+            let read = *read;
+            step_close(alloc, opens, root, place, read, at, byte)
         }
-        Place::Refused(first) => Ok((Place::Refused(first), Part::Whole)),
+        Place::Refused(_) => Ok(Part::Whole),
         Place::Between => {
             if opens.innermost().is_some() {
-                return Ok((Place::Between, Part::Lead(byte)));
+                return Ok(Part::Lead(byte));
             }
             if root.is_none() && at == 0 && byte == 239 {
-                return Ok((Place::MarkOne, Part::Whole));
+                put_place(place, Place::MarkOne);
+                return Ok(Part::Whole);
             }
-            Ok((Place::Refused(at), Part::Whole))
+            refuse(place, at);
+            Ok(Part::Whole)
         }
-        other => {
-            if takes(opens, root, &other) {
-                return Ok((other, Part::Lead(byte)));
+        _ => {
+            if takes(opens, root, place) {
+                return Ok(Part::Lead(byte));
             }
-            Ok((Place::Refused(at), Part::Whole))
+            refuse(place, at);
+            Ok(Part::Whole)
         }
     }
 }
@@ -570,54 +691,67 @@ fn lead(
 fn last(
     alloc: Global,
     opens: &mut Stack,
-    place: Place,
+    place: &mut Place,
     characters: &[u8],
     at: u64,
     byte: u8,
-) -> Result<(Place, Part), Memory>
-    ensures { IfOk result (λ s. (r : Option Element) → state s.0 s.1 opens.new r ≡ chosen (test (is_tail byte) (taken place opens.old r characters.now) (refused opens.old r at))) }
+) -> Result<Part, Memory>
+    ensures { IfOk result (λ q. (r : Option Element) → state place.new q opens.new r ≡ chosen (test (is_tail byte) (taken place.old opens.old r characters.now) (refused opens.old r at))) }
 {
     if is_tail(byte) {
-        let next = take(alloc, opens, place, characters)?;
-        return Ok((next, Part::Whole));
+        take_in_place(alloc, opens, place, characters)?;
+        return Ok(Part::Whole);
     }
-    Ok((Place::Refused(at), Part::Whole))
+    refuse(place, at);
+    Ok(Part::Whole)
 }
 
 /// Behind the first byte of a character past ASCII.
 fn second(
     alloc: Global,
     opens: &mut Stack,
-    place: Place,
+    place: &mut Place,
     first: u8,
     at: u64,
     byte: u8,
-) -> Result<(Place, Part), Memory>
-    ensures { IfOk result (λ s. (r : Option Element) → state s.0 s.1 opens.new r ≡ chosen (step place (part.Lead first) opens.old r at byte)) }
+) -> Result<Part, Memory>
+    ensures { IfOk result (λ q. (r : Option Element) → state place.new q opens.new r ≡ chosen (step place.old (part.Lead first) opens.old r at byte)) }
 {
     if is_lead_of_two(first) {
         return last(alloc, opens, place, &[first, byte], at, byte);
     }
     if is_front_of_three(first, byte) {
-        return Ok((place, Part::Three(first, byte)));
+        return Ok(Part::Three(first, byte));
     }
     if is_front_of_four(first, byte) {
-        return Ok((place, Part::Four(first, byte)));
+        return Ok(Part::Four(first, byte));
     }
-    Ok((Place::Refused(at), Part::Whole))
+    refuse(place, at);
+    Ok(Part::Whole)
+}
+
+/// Behind two bytes of a character of four.
+fn third(place: &mut Place, first: u8, second: u8, at: u64, byte: u8) -> Part
+    ensures { (os : List Open) (r : Option Element) → state place.new result os r ≡ chosen (step place.old (part.Four first second) os r at byte) }
+{
+    if is_tail(byte) {
+        return Part::Last(first, second, byte);
+    }
+    refuse(place, at);
+    Part::Whole
 }
 
 /// In the name of a reference, behind so many bytes of it.
 fn entity_name(
     alloc: Global,
     opens: &mut Stack,
-    place: Place,
+    place: &mut Place,
     entity: Entity,
     read: usize,
     at: u64,
     byte: u8,
-) -> Result<(Place, Part), Memory>
-    ensures { IfOk result (λ s. (r : Option Element) → state s.0 s.1 opens.new r ≡ chosen (named place entity read opens.old r at byte)) }
+) -> Result<Part, Memory>
+    ensures { IfOk result (λ q. (r : Option Element) → state place.new q opens.new r ≡ chosen (named place.old entity read opens.old r at byte)) }
 {
     let text = entity.text();
     let wanted = match text.get(read) {
@@ -625,71 +759,76 @@ fn entity_name(
         None => 0,
     };
     if byte != wanted {
-        return Ok((Place::Refused(at), Part::Whole));
+        refuse(place, at);
+        return Ok(Part::Whole);
     }
     if text.len().saturating_sub(read) > 1 {
-        return Ok((place, Part::Named(entity, read + 1)));
+        return Ok(Part::Named(entity, read + 1));
     }
-    let next = take(alloc, opens, place, &[entity.byte()])?;
-    Ok((next, Part::Whole))
+    take_in_place(alloc, opens, place, &[entity.byte()])?;
+    Ok(Part::Whole)
 }
 
 /// Behind the `&` of a reference.
-fn reference(place: Place, at: u64, byte: u8) -> (Place, Part)
-    ensures { (os : List Open) (r : Option Element) → state result.0 result.1 os r ≡ chosen (step place part.Reference os r at byte) }
+fn reference(place: &mut Place, at: u64, byte: u8) -> Part
+    ensures { (os : List Open) (r : Option Element) → state place.new result os r ≡ chosen (step place.old part.Reference os r at byte) }
 {
     if byte == b'#' {
-        return (place, Part::Hash);
+        return Part::Hash;
     }
     if byte == b'a' {
-        return (place, Part::ReferenceA);
+        return Part::ReferenceA;
     }
     if byte == b'l' {
-        return (place, Part::Named(Entity::Less, 1));
+        return Part::Named(Entity::Less, 1);
     }
     if byte == b'g' {
-        return (place, Part::Named(Entity::Greater, 1));
+        return Part::Named(Entity::Greater, 1);
     }
     if byte == b'q' {
-        return (place, Part::Named(Entity::Quotation, 1));
+        return Part::Named(Entity::Quotation, 1);
     }
-    (Place::Refused(at), Part::Whole)
+    refuse(place, at);
+    Part::Whole
 }
 
 /// Behind `&a`.
-fn reference_a(place: Place, at: u64, byte: u8) -> (Place, Part)
-    ensures { (os : List Open) (r : Option Element) → state result.0 result.1 os r ≡ chosen (step place part.ReferenceA os r at byte) }
+fn reference_a(place: &mut Place, at: u64, byte: u8) -> Part
+    ensures { (os : List Open) (r : Option Element) → state place.new result os r ≡ chosen (step place.old part.ReferenceA os r at byte) }
 {
     if byte == b'm' {
-        return (place, Part::Named(Entity::Ampersand, 2));
+        return Part::Named(Entity::Ampersand, 2);
     }
     if byte == b'p' {
-        return (place, Part::Named(Entity::Apostrophe, 2));
+        return Part::Named(Entity::Apostrophe, 2);
     }
-    (Place::Refused(at), Part::Whole)
+    refuse(place, at);
+    Part::Whole
 }
 
 /// Behind `&#`.
-fn hash(place: Place, at: u64, byte: u8) -> (Place, Part)
-    ensures { (os : List Open) (r : Option Element) → state result.0 result.1 os r ≡ chosen (step place part.Hash os r at byte) }
+fn hash(place: &mut Place, at: u64, byte: u8) -> Part
+    ensures { (os : List Open) (r : Option Element) → state place.new result os r ≡ chosen (step place.old part.Hash os r at byte) }
 {
     if Radix::Decimal.is_digit(byte) {
-        return (place, Part::Digits(Radix::Decimal, digit_value(byte)));
+        return Part::Digits(Radix::Decimal, digit_value(byte));
     }
     if byte == b'x' {
-        return (place, Part::HashX);
+        return Part::HashX;
     }
-    (Place::Refused(at), Part::Whole)
+    refuse(place, at);
+    Part::Whole
 }
 
 /// Behind `&#x`.
-fn hash_x(place: Place, at: u64, byte: u8) -> (Place, Part)
-    ensures { (os : List Open) (r : Option Element) → state result.0 result.1 os r ≡ chosen (step place part.HashX os r at byte) }
+fn hash_x(place: &mut Place, at: u64, byte: u8) -> Part
+    ensures { (os : List Open) (r : Option Element) → state place.new result os r ≡ chosen (step place.old part.HashX os r at byte) }
 {
     if Radix::Hexadecimal.is_digit(byte) {
-        return (place, Part::Digits(Radix::Hexadecimal, digit_value(byte)));
+        return Part::Digits(Radix::Hexadecimal, digit_value(byte));
     }
-    (Place::Refused(at), Part::Whole)
+    refuse(place, at);
+    Part::Whole
 }
 
 /// The bytes of the character with this number.
@@ -716,73 +855,41 @@ fn utf8(alloc: Global, number: u32) -> Result<Name, Memory>
     )
 }
 
+/// Behind the digits of this number and a `;`.
+fn numbered(alloc: Global, opens: &mut Stack, place: &mut Place, number: u32) -> Result<(), Memory>
+    requires { number ≤ 1114111 }
+    ensures { OnOk result ((r : Option Element) → state place.new part.Whole opens.new r ≡ chosen (taken place.old opens.old r (utf8 number))) }
+{
+    let character = utf8(alloc, number)?;
+    take_in_place(alloc, opens, place, character.bytes())
+}
+
 /// Behind digits of this number.
 fn digits(
     alloc: Global,
     opens: &mut Stack,
-    place: Place,
+    place: &mut Place,
     radix: Radix,
     number: u32,
     at: u64,
     byte: u8,
-) -> Result<(Place, Part), Memory>
-    ensures { IfOk result (λ s. (r : Option Element) → state s.0 s.1 opens.new r ≡ chosen (step place (part.Digits radix number) opens.old r at byte)) }
+) -> Result<Part, Memory>
+    ensures { IfOk result (λ q. (r : Option Element) → state place.new q opens.new r ≡ chosen (step place.old (part.Digits radix number) opens.old r at byte)) }
 {
     if radix.is_digit(byte) {
         let longer = u64::from(radix.base()) * u64::from(number) + u64::from(digit_value(byte));
         if longer <= 1_114_111 {
-            return Ok((place, Part::Digits(radix, longer as u32)));
+            return Ok(Part::Digits(radix, longer as u32));
         }
-        return Ok((Place::Refused(at), Part::Whole));
+        refuse(place, at);
+        return Ok(Part::Whole);
     }
     if byte == b';' && is_character_number(number) {
-        let character = utf8(alloc, number)?;
-        let next = take(alloc, opens, place, character.bytes())?;
-        return Ok((next, Part::Whole));
+        numbered(alloc, opens, place, number)?;
+        return Ok(Part::Whole);
     }
-    Ok((Place::Refused(at), Part::Whole))
-}
-
-/// The next byte, where the place is taken along.
-fn next(
-    alloc: Global,
-    opens: &mut Stack,
-    root: &mut Option<Element>,
-    place: Place,
-    part: Part,
-    at: u64,
-    byte: u8,
-) -> Result<(Place, Part), Memory>
-    ensures { IfOk result (λ s. state s.0 s.1 opens.new root.new ≡ chosen (step place part opens.old root.old at byte)) }
-{
-    match part {
-        Part::Whole => {
-            if is_lead(byte) {
-                lead(alloc, opens, root, place, at, byte)
-            } else {
-                ascii_step(alloc, opens, root, place, at, byte)
-            }
-        }
-        Part::Lead(first) => second(alloc, opens, place, first, at, byte),
-        Part::Three(first, second) => {
-            last(alloc, opens, place, &[first, second, byte], at, byte)
-        }
-        Part::Four(first, second) => {
-            if is_tail(byte) {
-                return Ok((place, Part::Last(first, second, byte)));
-            }
-            Ok((Place::Refused(at), Part::Whole))
-        }
-        Part::Last(first, second, third) => {
-            last(alloc, opens, place, &[first, second, third, byte], at, byte)
-        }
-        Part::Reference => Ok(reference(place, at, byte)),
-        Part::ReferenceA => Ok(reference_a(place, at, byte)),
-        Part::Named(entity, read) => entity_name(alloc, opens, place, entity, read, at, byte),
-        Part::Hash => Ok(hash(place, at, byte)),
-        Part::HashX => Ok(hash_x(place, at, byte)),
-        Part::Digits(radix, number) => digits(alloc, opens, place, radix, number, at, byte),
-    }
+    refuse(place, at);
+    Ok(Part::Whole)
 }
 
 /// A byte that begins no character past ASCII, at a place that is taken out and put back.
@@ -799,26 +906,8 @@ fn step_taken(
 {
     let taken = mem::replace(place, Place::Between);
     let (next, part) = ascii_step(alloc, opens, root, taken, at, byte)?;
-    *place = next;
+    put_place(place, next);
     Ok(part)
-}
-
-/// Behind a `<` at an offset, where the place stands.
-#[inline(never)]
-fn step_less(
-    alloc: Global,
-    opens: &Stack,
-    root: &Option<Element>,
-    into: &mut Place,
-    from: u64,
-    at: u64,
-    byte: u8,
-) -> Result<Part, Memory>
-    ensures { IfOk result (λ q. state into.new q opens.now root.now ≡ chosen (step_at (place.Less from) opens.now root.now at byte)) }
-{
-    let next = less(alloc, opens, root, from, at, byte)?;
-    *into = next;
-    Ok(Part::Whole)
 }
 
 /// In an end tag, where the place stands.
@@ -835,18 +924,8 @@ fn step_close(
     ensures { IfOk result (λ q. state into.new q opens.new root.new ≡ chosen (step_at (place.Close read) opens.old root.old at byte)) }
 {
     let next = close_name(alloc, opens, root, read, at, byte)?;
-    *into = next;
+    put_place(into, next);
     Ok(Part::Whole)
-}
-
-/// Between two tokens, where the place stands.
-#[inline(never)]
-fn step_between(opens: &mut Stack, into: &mut Place, at: u64, byte: u8) -> Result<Part, Memory>
-    ensures { IfOk result (λ q. (r : Option Element) → state into.new q opens.new r ≡ chosen (step_at place.Between opens.old r at byte)) }
-{
-    let (next, part) = between(opens, at, byte)?;
-    *into = next;
-    Ok(part)
 }
 
 /// In the name of a start tag, where the place stands.
@@ -863,8 +942,123 @@ fn step_tag_name(
     ensures { IfOk result (λ q. (r : Option Element) → state into.new q opens.new r ≡ chosen (step_at (place.TagName from name) opens.old r at byte)) }
 {
     let next = tag_name(alloc, opens, from, name, at, byte)?;
-    *into = next;
+    put_place(into, next);
     Ok(Part::Whole)
+}
+
+/// Behind white in a start tag, where the place stands.
+#[inline(never)]
+fn step_blank(
+    alloc: Global,
+    opens: &mut Stack,
+    into: &mut Place,
+    tag: Tag,
+    at: u64,
+    byte: u8,
+) -> Result<Part, Memory>
+    ensures { IfOk result (λ q. (r : Option Element) → state into.new q opens.new r ≡ chosen (step_at (place.Blank tag) opens.old r at byte)) }
+{
+    let next = blank(alloc, opens, tag, at, byte)?;
+    put_place(into, next);
+    Ok(Part::Whole)
+}
+
+/// In the name of an attribute, where the place stands.
+#[inline(never)]
+fn step_key(into: &mut Place, tag: Tag, name: Name, at: u64, byte: u8) -> Result<Part, Memory>
+    ensures { IfOk result (λ q. (os : List Open) (r : Option Element) → state into.new q os r ≡ chosen (step_at (place.Key tag name) os r at byte)) }
+{
+    let next = key(tag, name, at, byte)?;
+    put_place(into, next);
+    Ok(Part::Whole)
+}
+
+/// Behind the `=` of an attribute, where the place stands.
+#[inline(never)]
+fn step_equals(alloc: Global, into: &mut Place, tag: Tag, name: Name, at: u64, byte: u8)
+    ensures { (os : List Open) (r : Option Element) → state into.new part.Whole os r ≡ chosen (step_at (place.Equals tag name) os r at byte) }
+{
+    let next = equals(alloc, tag, name, at, byte);
+    put_place(into, next);
+}
+
+/// In a value, where the place stands.
+#[inline(never)]
+fn step_value(
+    alloc: Global,
+    into: &mut Place,
+    tag: Tag,
+    name: Name,
+    quote: Quote,
+    value: Name,
+    at: u64,
+    byte: u8,
+) -> Result<Part, Memory>
+    ensures { IfOk result (λ q. (os : List Open) (r : Option Element) → state into.new q os r ≡ chosen (step_at (place.Value tag name quote value) os r at byte)) }
+{
+    let (next, part) = value_byte(alloc, tag, name, quote, value, at, byte)?;
+    put_place(into, next);
+    Ok(part)
+}
+
+/// Behind a value, where the place stands.
+#[inline(never)]
+fn step_attributed(
+    alloc: Global,
+    opens: &mut Stack,
+    into: &mut Place,
+    tag: Tag,
+    at: u64,
+    byte: u8,
+) -> Result<Part, Memory>
+    ensures { IfOk result (λ q. (r : Option Element) → state into.new q opens.new r ≡ chosen (step_at (place.Attributed tag) opens.old r at byte)) }
+{
+    let next = after_tag(alloc, opens, tag, at, byte)?;
+    put_place(into, next);
+    Ok(Part::Whole)
+}
+
+/// The places of attributes, and others that are rarer.
+#[inline(never)]
+fn step_tag(
+    alloc: Global,
+    opens: &mut Stack,
+    root: &mut Option<Element>,
+    place: &mut Place,
+    at: u64,
+    byte: u8,
+) -> Result<Part, Memory>
+    ensures { IfOk result (λ q. state place.new q opens.new root.new ≡ chosen (step_at place.old opens.old root.old at byte)) }
+{
+    match place {
+        Place::Blank(tag) => {
+            let tag = take_tag(alloc, tag);
+            step_blank(alloc, opens, place, tag, at, byte)
+        }
+        Place::Key(tag, name) => {
+            let tag = take_tag(alloc, tag);
+            let name = take_name(alloc, name);
+            step_key(place, tag, name, at, byte)
+        }
+        Place::Equals(tag, name) => {
+            let tag = take_tag(alloc, tag);
+            let name = take_name(alloc, name);
+            step_equals(alloc, place, tag, name, at, byte);
+            Ok(Part::Whole)
+        }
+        Place::Value(tag, name, quote, value) => {
+            let quote = *quote;
+            let tag = take_tag(alloc, tag);
+            let name = take_name(alloc, name);
+            let value = take_name(alloc, value);
+            step_value(alloc, place, tag, name, quote, value, at, byte)
+        }
+        Place::Attributed(tag) => {
+            let tag = take_tag(alloc, tag);
+            step_attributed(alloc, opens, place, tag, at, byte)
+        }
+        _ => step_taken(alloc, opens, root, place, at, byte),
+    }
 }
 
 /// A byte that begins no character past ASCII, where no part of a character or a reference was read. What the place holds stays
@@ -891,16 +1085,16 @@ fn step_in_place(
         }
         Place::TagName(from, name) => {
             let from = *from;
-            let name = mem::replace(name, Name::from(Vec::new(alloc)));
+            let name = take_name(alloc, name);
             step_tag_name(alloc, opens, place, from, name, at, byte)
         }
-        _ => step_taken(alloc, opens, root, place, at, byte),
+        _ => step_tag(alloc, opens, root, place, at, byte),
     }
 }
 
-/// The next byte, at a place that is taken out and put back.
+/// The next byte, behind a part of a character or of a reference.
 #[inline(never)]
-fn advance_taken(
+fn within(
     alloc: Global,
     opens: &mut Stack,
     root: &mut Option<Element>,
@@ -911,10 +1105,40 @@ fn advance_taken(
 ) -> Result<Part, Memory>
     ensures { IfOk result (λ q. state place.new q opens.new root.new ≡ chosen (step place.old part opens.old root.old at byte)) }
 {
-    let taken = mem::replace(place, Place::Between);
-    let (next, part) = next(alloc, opens, root, taken, part, at, byte)?;
-    *place = next;
-    Ok(part)
+    match part {
+        Part::Whole => whole(alloc, opens, root, place, at, byte),
+        Part::Lead(first) => second(alloc, opens, place, first, at, byte),
+        Part::Three(first, second) => {
+            last(alloc, opens, place, &[first, second, byte], at, byte)
+        }
+        Part::Four(first, second) => Ok(third(place, first, second, at, byte)),
+        Part::Last(first, second, third) => {
+            last(alloc, opens, place, &[first, second, third, byte], at, byte)
+        }
+        Part::Reference => Ok(reference(place, at, byte)),
+        Part::ReferenceA => Ok(reference_a(place, at, byte)),
+        Part::Named(entity, read) => entity_name(alloc, opens, place, entity, read, at, byte),
+        Part::Hash => Ok(hash(place, at, byte)),
+        Part::HashX => Ok(hash_x(place, at, byte)),
+        Part::Digits(radix, number) => digits(alloc, opens, place, radix, number, at, byte),
+    }
+}
+
+/// A byte where no part of a character or a reference was read.
+fn whole(
+    alloc: Global,
+    opens: &mut Stack,
+    root: &mut Option<Element>,
+    place: &mut Place,
+    at: u64,
+    byte: u8,
+) -> Result<Part, Memory>
+    ensures { IfOk result (λ q. state place.new q opens.new root.new ≡ chosen (step place.old part.Whole opens.old root.old at byte)) }
+{
+    if is_lead(byte) {
+        return lead(alloc, opens, root, place, at, byte);
+    }
+    step_in_place(alloc, opens, root, place, at, byte)
 }
 
 /// The next byte: the place behind it, and the part of a character or a reference that was read.
@@ -930,12 +1154,7 @@ pub fn advance(
     ensures { IfOk result (λ q. state place.new q opens.new root.new ≡ chosen (step place.old part opens.old root.old at byte)) }
 {
     match part {
-        Part::Whole => {
-            if is_lead(byte) {
-                return advance_taken(alloc, opens, root, place, Part::Whole, at, byte);
-            }
-            step_in_place(alloc, opens, root, place, at, byte)
-        }
-        other => advance_taken(alloc, opens, root, place, other, at, byte),
+        Part::Whole => whole(alloc, opens, root, place, at, byte),
+        other => within(alloc, opens, root, place, other, at, byte),
     }
 }
