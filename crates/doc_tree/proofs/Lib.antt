@@ -13,3 +13,4 @@ pub mod TakenRuns
 pub mod Written
 pub mod Fresh
 pub mod Instances
+pub mod TakenTokens

@@ -8,3 +8,4 @@ pub mod Fed
 pub mod Readers
 pub mod Writable
 pub mod Instances
+pub mod Tokens

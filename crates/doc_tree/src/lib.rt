@@ -11,6 +11,7 @@ mod reader;
 mod runs;
 mod stack;
 mod stepping;
+mod tokens;
 
 pub use doc_model::{Attribute, Element, TextWriter, write};
 pub use faults::{DocFault, Fault};

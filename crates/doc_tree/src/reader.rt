@@ -8,9 +8,9 @@ ghost use Rattle.doc_tree.specs.Fed.{joined};
 
 use crate::faults::DocFault;
 use crate::places::{Part, Place};
-use crate::runs::take_run;
 use crate::stack::Stack;
 use crate::stepping::advance;
+use crate::tokens::take_token;
 use doc_model::Element;
 use std::alloc::Global;
 use wide_sums::Memory;
@@ -121,7 +121,14 @@ impl Reader {
         if self.part != Part::Whole {
             return Some(0);
         }
-        match take_run(&mut self.place, &mut self.opens, bytes) {
+        match take_token(
+            self.alloc,
+            &mut self.place,
+            &mut self.opens,
+            &mut self.root,
+            self.count,
+            bytes,
+        ) {
             Err(Memory) => {
                 self.fault = Some(DocFault::Memory);
                 None
@@ -146,11 +153,14 @@ impl Reader {
             }
             match self.run(&piece[at..]) {
                 None => return,
-                Some(count) => at += count,
-            }
-            if at < piece.len() {
-                self.step(piece[at]);
-                at += 1;
+                Some(count) => {
+                    if count > 0 {
+                        at += count;
+                    } else {
+                        self.step(piece[at]);
+                        at += 1;
+                    }
+                }
             }
         }
     }

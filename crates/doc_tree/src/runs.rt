@@ -13,7 +13,7 @@ use name_tables::Name;
 use wide_sums::Memory;
 
 /// How many bytes at the front may stand in a name.
-fn name_run(bytes: &[u8]) -> usize
+pub fn name_run(bytes: &[u8]) -> usize
     ensures within { result ≤ length bytes.now }
     ensures all { all_bytes is_name_byte (take result bytes.now) ≡ true }
 {
@@ -36,7 +36,7 @@ fn take_name(name: &mut Name, bytes: &[u8]) -> Result<usize, Memory>
 }
 
 /// The length of the innermost element's name, where the bytes begin with it.
-fn ended_name(opens: &Stack, bytes: &[u8]) -> Option<usize>
+pub fn ended_name(opens: &Stack, bytes: &[u8]) -> Option<usize>
     ensures within { IfSome result (λ n. n ≤ length bytes.now) }
     ensures name { IfSome result (λ n. (o : Open) × (os : List Open) × (opens.now ≡ o ∷ os) × (n ≡ length o.name) × (take n bytes.now ≡ o.name)) }
 {

@@ -34,7 +34,7 @@ fn are_white(bytes: &[u8]) -> bool
 }
 
 /// The text of an element with these characters.
-fn shown(alloc: Global, characters: Name) -> Name
+pub fn shown(alloc: Global, characters: Name) -> Name
     ensures { result ≡ shown characters }
 {
     if are_white(characters.bytes()) {
@@ -44,7 +44,7 @@ fn shown(alloc: Global, characters: Name) -> Name
 }
 
 /// An element has ended.
-fn close(
+pub fn close(
     alloc: Global,
     opens: &mut Stack,
     root: &mut Option<Element>,
@@ -60,7 +60,7 @@ fn close(
 
 /// The place becomes this one.
 #[inline(never)]
-fn put_place(into: &mut Place, next: Place)
+pub fn put_place(into: &mut Place, next: Place)
     ensures { into.new ≡ next }
 {
     *into = next;
@@ -83,7 +83,7 @@ fn take_name(alloc: Global, name: &mut Name) -> Name
 }
 
 /// The tag, taken out of where it stands.
-fn take_tag(alloc: Global, tag: &mut Tag) -> Tag
+pub fn take_tag(alloc: Global, tag: &mut Tag) -> Tag
     ensures { result ≡ tag.old }
 {
     let nothing = Tag {

@@ -15,24 +15,44 @@ returns-then-is_some-clause-read c b h =
     subst (λ bytes. HasReadBy s.fault st s.count bytes) (append_assoc b (take i piece) (drop i piece) ∙ ap (λ end. b ++ end) (take-append-drop i piece))
     (read_stays s.fault st s.count (b ++ take i piece) (drop i piece) (sym c.is_some.ensures ∙ c.if-is_some.true) (c.loop-at.invariant.read b h))
 
-regroup_read : (b piece : List ℕ) (at n : ℕ) → at + n < length piece
-    → ((b ++ take at piece) ++ take n (take (length piece - at) (drop at piece))) ++ get_or piece (at + n) 0 ∷ [] ≡ b ++ take (at + n + 1) piece
-regroup_read b piece at n within =
-    let slice : take (length piece - at) (drop at piece) ≡ drop at piece = ap (λ m. take m (drop at piece)) (sym (length-drop at piece)) ∙ take-length (drop at piece) in
-    ap (λ s. ((b ++ take at piece) ++ take n s) ++ get_or piece (at + n) 0 ∷ []) slice
-    ∙ ap (λ s. s ++ get_or piece (at + n) 0 ∷ []) (append_assoc b (take at piece) (take n (drop at piece)) ∙ ap (λ s. b ++ s) (sym (take-add at n piece)))
-    ∙ append_assoc b (take (at + n) piece) (get_or piece (at + n) 0 ∷ [])
-    ∙ ap (λ s. b ++ s) (sym (take_more piece (at + n) 0 within))
+slice_end : (piece : List ℕ) (at : ℕ) → take (length piece - at) (drop at piece) ≡ drop at piece
+slice_end piece at = ap (λ m. take m (drop at piece)) (sym (length-drop at piece)) ∙ take-length (drop at piece)
 
-pub loop-at-preserved-then-at-piece : goal.loop-at-preserved-then-at-piece
-loop-at-preserved-then-at-piece c =
+regroup_run : (b piece : List ℕ) (at n : ℕ) → (b ++ take at piece) ++ take n (take (length piece - at) (drop at piece)) ≡ b ++ take (at + n) piece
+regroup_run b piece at n =
+    ap (λ s. (b ++ take at piece) ++ take n s) (slice_end piece at)
+    ∙ append_assoc b (take at piece) (take n (drop at piece)) ∙ ap (λ s. b ++ s) (sym (take-add at n piece))
+
+regroup_step : (b piece : List ℕ) (at n : ℕ) → at < length piece → n ≡ 0
+    → ((b ++ take at piece) ++ take n (take (length piece - at) (drop at piece))) ++ get_or piece at 0 ∷ [] ≡ b ++ take (at + 1) piece
+regroup_step b piece at n within none =
+    ap (λ s. s ++ get_or piece at 0 ∷ []) (regroup_run b piece at n ∙ ap (λ k. b ++ take k piece) (omega (arith, none)))
+    ∙ append_assoc b (take at piece) (get_or piece at 0 ∷ [])
+    ∙ ap (λ s. b ++ s) (sym (take_more piece at 0 within))
+
+pub loop-at-preserved-then-count-gt0 : goal.loop-at-preserved-then-count-gt0
+loop-at-preserved-then-count-gt0 c =
+    let at = c.loop-at.at in
+    let n = c.in-Some.count in
+    let piece = c.args.piece.now in
+    let s = c.run.new.self in
+    record {
+      within = omega (arith, c.in-Some.ensures.within.0);
+      read = λ b h. subst (λ bytes. HasReadBy s.fault (state s.place s.part s.opens s.root) s.count bytes) (regroup_run b piece at n)
+          (c.in-Some.ensures.read (b ++ take at piece) (c.loop-at.invariant.read b h));
+      count = omega (arith, c.in-Some.ensures.within.1, c.loop-at.invariant.count);
+    }
+
+pub loop-at-preserved : goal.loop-at-preserved
+loop-at-preserved c =
     let at = c.loop-at.at in
     let n = c.in-Some.count in
     let piece = c.args.piece.now in
     let s = c.step.new.self in
+    let none : n ≡ 0 = omega (arith, c.if-count-gt0.false) in
     record {
       within = omega arith;
-      read = λ b h. subst (λ bytes. HasReadBy s.fault (state s.place s.part s.opens s.root) s.count bytes) (regroup_read b piece at n c.if-at-piece.true)
+      read = λ b h. subst (λ bytes. HasReadBy s.fault (state s.place s.part s.opens s.root) s.count bytes) (regroup_step b piece at n c.loop-at-test.true none)
           (c.step.ensures.read _ (c.in-Some.ensures.read (b ++ take at piece) (c.loop-at.invariant.read b h)));
-      count = omega (arith, c.in-Some.ensures.within.1, c.step.ensures.count, c.loop-at.invariant.count);
+      count = omega (arith, none, c.in-Some.ensures.within.1, c.step.ensures.count, c.loop-at.invariant.count);
     }
