@@ -1,0 +1,6 @@
+use Rattle.std.proofs.Common.{◌≡◌, take}
+use Rattle.colour_sorts.specs.Naming.{ids_of}
+use Rattle.colour_sorts.proofs.building.ids_of_sorts.Given as goal
+
+abbrev pub invariant-loop-sort : goal.invariant-loop-sort
+invariant-loop-sort l = l.ids ≡ take l.sort-index (ids_of l.sorts)

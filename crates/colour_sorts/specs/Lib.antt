@@ -1,0 +1,13 @@
+pub mod Colours
+pub mod Places
+pub mod Limits
+pub mod Naming
+pub mod Dividing
+pub mod Filling
+pub mod Domain
+pub mod Calls
+pub mod Groups
+pub mod Judging
+pub mod Held
+pub mod Walking
+pub mod Compiling
