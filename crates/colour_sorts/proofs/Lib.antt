@@ -19,3 +19,4 @@ pub mod Filled
 pub mod Covered
 pub mod Partitioned
 pub mod Divided
+pub mod Searched

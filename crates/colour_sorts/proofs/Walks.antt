@@ -268,3 +268,21 @@ fresh-done m e f is = apart f (sym e ∙ is)
   where
     apart : (f : Facts) → Fresh ≡ Done f → ⊥
     apart f e = grind arith
+
+-- a walk that begins at any sort
+pub walk-one : (sorts : List NamedSort) (marks : List Mark) (at : ℕ) → IsWalk sorts marks [] → at < length marks → IsWalk sorts marks (at ∷ [])
+walk-one sorts marks at walk inside = record {
+  as_long = walk.as_long;
+  capped = walk.capped;
+  settled = walk.settled;
+  chain = λ k within. absurd (omega (arith, within));
+  waiting = λ j e. none j (walk.waiting j e);
+  within = λ k within. by k within;
+}
+  where
+    none : (j : ℕ) → (k : ℕ) × (k < 0) × (get_or [] k 0 ≡ j) → (k : ℕ) × (k < 1) × (get_or (at ∷ []) k 0 ≡ j)
+    none j (k, less, e) = absurd (omega (arith, less))
+
+    by : (k : ℕ) → k < 1 → get_or (at ∷ []) k 0 < length marks
+    by zero within = inside
+    by (suc k) within = absurd (omega (arith, within))

@@ -11,3 +11,4 @@ pub mod Judging
 pub mod Held
 pub mod Walking
 pub mod Compiling
+pub mod Searching

@@ -1,4 +1,4 @@
-ghost use Rattle.std.specs.Prelude.{◌≡◌, ◌<◌, [], length, replicate, IfOk, IfNone, IfSome, List};
+ghost use Rattle.std.specs.Prelude.{◌≡◌, ◌<◌, All, [], length, replicate, IfOk, IfNone, IfSome, List};
 ghost use Rattle.std.specs.List.{IsDistinct};
 ghost use Rattle.std.specs.Str.{bytes_eq};
 ghost use Rattle.colour_sorts.specs.Domain.{fault_of, sort_fault_from};
@@ -9,7 +9,7 @@ ghost use Rattle.colour_sorts.specs.declared.facts.Mark.TheVariants.{Fresh};
 use crate::facts::Mark;
 use crate::knowing::leads_to_known;
 use crate::rules::Rule;
-use crate::walking::settle;
+use crate::walking::{judge_in_order, settle};
 use crate::written::NamedSort;
 use name_tables::Ids;
 use std::alloc::Global;
@@ -71,14 +71,30 @@ fn rule_of(
 }
 
 /// No named sort was looked at.
-pub(crate) fn fresh_marks(alloc: Global, count: usize) -> Result<Vec<Mark>, Memory>
+fn fresh_marks(alloc: Global, count: usize) -> Result<Vec<Mark>, Memory>
     ensures { IfOk result (λ marks. marks.items ≡ replicate count Fresh) }
 {
     let marks = vec![in alloc; Mark::Fresh; count]?;
     Ok(marks)
 }
 
-/// The first named sort that breaks a rule, where none was looked at. Where there is none, all are
+/// The named sorts at these positions judged in this order.
+pub(crate) fn judged_marks(
+    alloc: Global,
+    sorts: &[NamedSort],
+    ids: &Ids,
+    order: &[u32],
+) -> Result<Vec<Mark>, Memory>
+    requires ids { ids.now ≡ ids_of sorts.now }
+    requires order { All (λ at. at < length ids.now) order.now }
+    ensures { IfOk result (λ marks. IsWalk sorts.now marks.items []) }
+{
+    let mut marks = fresh_marks(alloc, sorts.len())?;
+    judge_in_order(sorts, ids, marks.as_mut_slice(), order);
+    Ok(marks)
+}
+
+/// The first named sort that breaks a rule, where no walk is on its way. Where there is none, all are
 /// done.
 pub(crate) fn first_broken(
     alloc: Global,

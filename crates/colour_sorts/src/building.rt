@@ -1,4 +1,4 @@
-ghost use Rattle.std.specs.Prelude.{◌≡◌, ℕ, true, ◌-◌, ◌<◌, ◌^◌, [], Some, None, length, IfOk, IfErr, MatchResult};
+ghost use Rattle.std.specs.Prelude.{◌≡◌, ℕ, true, ◌-◌, ◌<◌, All, ◌^◌, [], Some, None, length, IfOk, IfErr, MatchResult};
 ghost use Rattle.std.specs.List.{IsDistinct};
 ghost use Rattle.std.specs.Str.{bytes_eq};
 ghost use Rattle.colour_sorts.specs.Calls.{IsRefused};
@@ -7,10 +7,11 @@ ghost use Rattle.colour_sorts.specs.Domain.{StandsFor, fault_of, sort_fault_from
 ghost use Rattle.colour_sorts.specs.Groups.{names_in};
 ghost use Rattle.colour_sorts.specs.Naming.{constants_in, constants_of, has_end, ids_of, term_at};
 
-use crate::breaking::{BrokenSort, first_broken, fresh_marks};
+use crate::breaking::{BrokenSort, first_broken, judged_marks};
 use crate::compiling::{compile_all, no_sorts};
 use crate::domains::Domains;
 use crate::groups::Groups;
+use crate::ordering::order_of;
 use crate::rules::SortFault;
 use crate::sorts::Sort;
 use crate::written::{NamedSort, SortTerm};
@@ -62,15 +63,17 @@ fn compiled_sorts(
     alloc: Global,
     sorts: &[NamedSort],
     ids: &Ids,
+    order: &[u32],
 ) -> Result<Vec<Option<Sort>>, Memory>
     requires ids { ids.now ≡ ids_of sorts.now }
     requires distinct { IsDistinct bytes_eq ids.now }
+    requires order { All (λ at. at < length ids.now) order.now }
     requires ends { (at : ℕ) → at < length sorts.now → has_end sorts.now (term_at sorts.now at) ≡ true }
     ensures compiled { IfOk result (λ compiled. IsCompiling sorts.now compiled.items) }
     ensures all { IfOk result (λ compiled. AreAllCompiled compiled.items (length sorts.now)) }
 {
     let mut compiled = no_sorts(alloc, ids.count())?;
-    compile_all(alloc, sorts, ids, compiled.as_mut_slice())?;
+    compile_all(alloc, sorts, ids, compiled.as_mut_slice(), order)?;
     Ok(compiled)
 }
 
@@ -84,11 +87,12 @@ fn compile_sorts(alloc: Global, sorts: &[NamedSort]) -> Result<Result<Domains, B
         (λ broken. (fault_of sorts.now (Some broken) ≡ sort_fault_from sorts.now 0 sorts.now) × (broken.at < length sorts.now))) }
 {
     let ids = ids_of_sorts(alloc, sorts)?;
-    let mut marks = fresh_marks(alloc, sorts.len())?;
+    let order = order_of(alloc, sorts, &ids)?;
+    let mut marks = judged_marks(alloc, sorts, &ids, order.as_slice())?;
     if let Some(broken) = first_broken(alloc, sorts, &ids, marks.as_mut_slice())? {
         return Ok(Err(broken));
     }
-    let compiled = compiled_sorts(alloc, sorts, &ids)?;
+    let compiled = compiled_sorts(alloc, sorts, &ids, order.as_slice())?;
     let constants = constants_of_sorts(alloc, sorts)?;
     Ok(Ok(Domains {
         ids,

@@ -1,4 +1,4 @@
-ghost use Rattle.std.specs.Prelude.{◌≡◌, ℕ, suc, ◌<◌, ◌&&◌, true, None, length, replicate, IfOk, OnOk, MatchBool, MatchOption, ⊤};
+ghost use Rattle.std.specs.Prelude.{◌≡◌, ℕ, suc, ◌<◌, All, ◌&&◌, true, None, length, replicate, IfOk, OnOk, MatchBool, MatchOption, ⊤};
 ghost use Rattle.colour_sorts.specs.Compiling.{AreAllCompiled, AreCompiledBy, Grows, IsCompiledAt, IsCompiledBy, IsCompiling, IsReached, IsUncompiled};
 ghost use Rattle.colour_sorts.specs.Naming.{has_end, ids_of, term_at};
 ghost use Rattle.std.specs.List.{IsDistinct};
@@ -139,6 +139,25 @@ fn attempt(
     }
 }
 
+/// One attempt at each named sort at these positions, in this order.
+fn compile_in_order(
+    alloc: Global,
+    sorts: &[NamedSort],
+    ids: &Ids,
+    compiled: &mut [Option<Sort>],
+    order: &[u32],
+) -> Result<(), Memory>
+    requires ids { ids.now ≡ ids_of sorts.now }
+    requires compiled { IsCompiling sorts.now compiled.old }
+    requires order { All (λ at. at < length ids.now) order.now }
+    ensures { OnOk result (IsCompiling sorts.now compiled.new) }
+{
+    for at in order {
+        attempt(alloc, sorts, ids, compiled, *at)?;
+    }
+    Ok(())
+}
+
 fn both(first: bool, second: bool) -> bool
     ensures { result ≡ first && second }
 {
@@ -166,20 +185,24 @@ fn attempt_all(
     Ok(complete)
 }
 
-/// Compiles all named sorts, of which none leads into a circle.
+/// Compiles all named sorts, of which none leads into a circle. One round is enough where the order
+/// has each sort behind those that it names.
 pub(crate) fn compile_all(
     alloc: Global,
     sorts: &[NamedSort],
     ids: &Ids,
     compiled: &mut [Option<Sort>],
+    order: &[u32],
 ) -> Result<(), Memory>
     requires ids { ids.now ≡ ids_of sorts.now }
     requires distinct { IsDistinct bytes_eq ids.now }
     requires compiled { IsCompiling sorts.now compiled.old }
+    requires order { All (λ at. at < length ids.now) order.now }
     requires ends { (at : ℕ) → at < length sorts.now → has_end sorts.now (term_at sorts.now at) ≡ true }
     ensures compiled { OnOk result (IsCompiling sorts.now compiled.new) }
     ensures all { OnOk result (AreAllCompiled compiled.new (length sorts.now)) }
 {
+    compile_in_order(alloc, sorts, ids, compiled, order)?;
     for _round in 0..ids.count() {
         if attempt_all(alloc, sorts, ids, compiled)? {
             return Ok(());

@@ -16,6 +16,7 @@ mod laws;
 mod limiting;
 mod lookups;
 mod naming;
+mod ordering;
 mod partitions;
 mod placing;
 mod resolving;

@@ -1,4 +1,4 @@
-ghost use Rattle.std.specs.Prelude.{◌≡◌, ℕ, ◌<◌, ◌++◌, ◌∷◌, [], length, false, IfOk, OnOk, MatchBool, ⊤};
+ghost use Rattle.std.specs.Prelude.{◌≡◌, ℕ, ◌<◌, All, ◌++◌, ◌∷◌, [], length, false, IfOk, OnOk, MatchBool, ⊤};
 ghost use Rattle.std.specs.List.{IsDistinct};
 ghost use Rattle.std.specs.Str.{bytes_eq};
 ghost use Rattle.colour_sorts.specs.Naming.{constants_in, has_end, ids_of, term_at};
@@ -61,6 +61,36 @@ fn advance(
                 _ => Ok(false),
             }
         }
+    }
+}
+
+/// Judges a named sort, unless it is done or names one that isn't.
+fn judge(sorts: &[NamedSort], ids: &Ids, marks: &mut [Mark], at: u32)
+    requires ids { ids.now ≡ ids_of sorts.now }
+    requires walk { IsWalk sorts.now marks.old [] }
+    requires within { at < length ids.now }
+    ensures { IsWalk sorts.now marks.new [] }
+{
+    let mark = marks[at as usize];
+    if let Mark::Done(_) = mark {
+        return;
+    }
+    let sort = &sorts[at as usize].sort;
+    if let Ok(facts) = facts_of(sort, constants_declared(sort), ids, marks) {
+        marks[at as usize] = Mark::Done(facts);
+    }
+}
+
+/// Judges the named sorts at these positions in this order, but for those that name one that isn't
+/// done.
+pub(crate) fn judge_in_order(sorts: &[NamedSort], ids: &Ids, marks: &mut [Mark], order: &[u32])
+    requires ids { ids.now ≡ ids_of sorts.now }
+    requires walk { IsWalk sorts.now marks.old [] }
+    requires order { All (λ at. at < length ids.now) order.now }
+    ensures { IsWalk sorts.now marks.new [] }
+{
+    for at in order {
+        judge(sorts, ids, marks, *at);
     }
 }
 

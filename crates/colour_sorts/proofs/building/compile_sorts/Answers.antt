@@ -1,16 +1,14 @@
 use Rattle.std.proofs.Common.{◌≡◌, [], ◌++◌, take, drop, ap, sym, ◌∙◌, arith, length, refl, subst}
-use Rattle.std.proofs.lemmas.List.{length-map, length-replicate}
+use Rattle.std.proofs.lemmas.List.{length-map}
 use Rattle.std.proofs.Math.Seq.{take-append_seam}
-use Rattle.colour_sorts.specs.declared.facts.Mark.TheVariants.{Fresh}
 use Rattle.std.specs.Prelude.{IfNone}
 use Rattle.colour_sorts.specs.Domain.{fault_of}
 use Rattle.colour_sorts.specs.Walking.{AreSound, IsWalk}
-use Rattle.colour_sorts.proofs.Broken.{walk-fresh}
 use Rattle.colour_sorts.proofs.Built.{built-at, built-held, built-sorts, built-stands, none-if-not-broken}
 use Rattle.colour_sorts.proofs.building.compile_sorts.Goals as goal
 
 pub first_broken-requires-clause-walk : goal.first_broken-requires-clause-walk
-first_broken-requires-clause-walk c = walk-fresh c.args.sorts.now c.as_mut_slice.result.now (c.as_mut_slice.ensures.value ∙ c.in_ok-marks.ensures)
+first_broken-requires-clause-walk c = subst (λ ms. IsWalk c.args.sorts.now ms []) (sym c.as_mut_slice.ensures.value) c.in_ok-marks.ensures
 
 pub invariant_of-result : goal.invariant_of-result
 invariant_of-result c =
@@ -22,7 +20,7 @@ invariant_of-result c =
     let built = built-at sorts compiled c.first_broken.new.marks c.requires.distinct walk sound c.in_ok-compiled.ensures.compiled c.in_ok-compiled.ensures.all in
     let held = built-held sorts compiled c.first_broken.new.marks walk.as_long c.in_ok-compiled.ensures.compiled.as_long built in
     let long : c.in_ok-marks.marks.len ≡ length c.first_broken.new.marks =
-    omega (arith, walk.as_long, c.as_mut_slice.ensures.len, ap length (c.as_mut_slice.ensures.value ∙ c.in_ok-marks.ensures), length-replicate (length sorts) Fresh) in
+    omega (arith, walk.as_long, c.as_mut_slice.ensures.len, ap length c.as_mut_slice.ensures.value, c.in_ok-marks.ensures.as_long) in
     let kept = c.from_vec-2.ensures ∙ ap (λ n. take n (c.first_broken.new.marks ++ drop (length c.first_broken.new.marks) c.in_ok-marks.marks.items)) long
     ∙ take-append_seam c.first_broken.new.marks (drop (length c.first_broken.new.marks) c.in_ok-marks.marks.items) in
     rw (c.in_ok-constants.ensures, c.from_vec.ensures, kept) (
