@@ -17,6 +17,3 @@ pub use doc_model::{Attribute, Element, TextWriter, write};
 pub use faults::{DocFault, Fault};
 pub use laws::{small_instances_hold, spelled_tree_is_one, written_text_is_spelled};
 pub use reader::{Reader, read_pieces};
-
-#[cfg(test)]
-mod tests;

@@ -1,6 +1,6 @@
 ghost use Rattle.std.specs.Prelude.{◌≤◌};
 
-use crate::{DocFault, Element, Reader, read_pieces, write};
+use doc_tree::{DocFault, Element, Reader, read_pieces, write};
 use std::alloc::Global;
 use std::test::Fail;
 
