@@ -15,6 +15,3 @@ pub use cert_lines::{
 pub use faults::CertFault;
 pub use laws::{certificates_have_one_answer, written_certificate_is_read};
 pub use reader::{CertReader, read_cert};
-
-#[cfg(test)]
-mod tests;

@@ -20,8 +20,6 @@ mod searches;
 mod settling;
 mod spreads;
 mod steps;
-#[cfg(test)]
-mod tests;
 
 pub use faults::JudgeFault;
 pub use judging::judge;

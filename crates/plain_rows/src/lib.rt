@@ -11,6 +11,3 @@ mod numbers;
 pub use building::{PlainRows, build};
 pub use faults::BuildFault;
 pub use numbers::Numbers;
-
-#[cfg(test)]
-mod tests;

@@ -20,6 +20,3 @@ pub use examples::ring_texts;
 pub use faults::TextFault;
 pub use net_reader::read_net;
 pub use property_reader::read_property;
-
-#[cfg(test)]
-mod tests;
