@@ -1,0 +1,4 @@
+pub mod Counts
+pub mod Trims
+pub mod Verdicts
+pub mod Walks

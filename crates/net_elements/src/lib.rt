@@ -1,0 +1,18 @@
+//! The elements of net files (ISO/IEC 15909-2): the table of what each of them holds, and the rules that a tree breaks.
+#![tactic(auto)]
+
+mod attributes;
+mod faults;
+mod kinds;
+mod roles;
+mod rows;
+mod seats;
+mod walker;
+
+pub use attributes::{kind_of, trimmed, truth_of, value_of};
+pub use faults::ReadFault;
+pub use kinds::Kind;
+pub use roles::{Key, Role, key_word_of, word_of};
+pub use rows::{Count, Slot, keys_of, slots_of};
+pub use seats::{is_passed_over, role_named};
+pub use walker::{Walker, check};
