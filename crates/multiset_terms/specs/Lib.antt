@@ -1,0 +1,15 @@
+pub mod Agreeing
+pub mod Bindings
+pub mod Conditions
+pub mod Context
+pub mod GuardParts
+pub mod Instances
+pub mod Kinds
+pub mod Laws
+pub mod Parts
+pub mod Rows
+pub mod Standing
+pub mod Typing
+pub mod Values
+pub mod Weights
+pub mod Trees
