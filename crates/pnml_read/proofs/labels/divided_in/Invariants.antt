@@ -1,0 +1,10 @@
+use Rattle.std.proofs.Common.{◌≡◌, drop, map, not}
+use Rattle.std.specs.List.{filter}
+use Rattle.net_elements.specs.declared.roles.Role.TheVariants as role
+use Rattle.pnml_read.specs.Nets.{given, is_block, kept}
+use Rattle.pnml_read.proofs.labels.divided_in.Given as goal
+
+abbrev pub invariant-loop-child : goal.invariant-loop-child
+invariant-loop-child l =
+    filter (λ c. not (is_block c)) (kept role.Partition (map given (drop l.child-index l.children)))
+    ≡ filter (λ c. not (is_block c)) (kept role.Partition (map given l.children))

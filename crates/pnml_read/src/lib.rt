@@ -1,0 +1,19 @@
+//! Nets read from the trees of net files (ISO/IEC 15909-2).
+#![tactic(auto)]
+
+mod children;
+mod guards;
+mod labels;
+mod lists;
+mod reading;
+mod sorts;
+mod terms;
+mod values;
+
+pub use doc_tree::Fault;
+pub use net_elements::ReadFault;
+pub use net_model::{
+    Arc, Block, Guard, Kind, Label, Member, NamedSort, Net, Order, Partition, Place, RefKind,
+    Reference, SortTerm, Span, Term, Transition, VariableDecl,
+};
+pub use reading::read_net;
