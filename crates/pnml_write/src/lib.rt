@@ -1,0 +1,12 @@
+//! The canonical texts of nets, as net files (ISO/IEC 15909-2).
+#![tactic(auto)]
+
+mod elements;
+mod guards;
+mod labels;
+mod nodes;
+mod sorts;
+mod terms;
+mod writing;
+
+pub use writing::write_net;
