@@ -1,0 +1,7 @@
+use Rattle.std.proofs.Common.{◌≡◌, map, take}
+use Rattle.colour_sorts.specs.Domain.{element_ids}
+use Rattle.colour_sorts.specs.Groups.{names_in}
+use Rattle.colour_tables.proofs.apart.ids_of_elements.Given as goal
+
+abbrev pub invariant-loop-partition : goal.invariant-loop-partition
+invariant-loop-partition l = l.names.items ≡ names_in (map element_ids (take l.partition-index l.partitions))
