@@ -1,5 +1,5 @@
 -- What the outcome Holds shows of the three files.
-use Rattle.std.specs.Prelude.{◌≡◌, ℕ, List, Option, Some, None}
+use Rattle.std.specs.Prelude.{◌≡◌, ℕ, List, Some}
 use Rattle.host_io.specs.Held.{Held, bytes_of}
 use Rattle.plain_model.specs.declared.nets.PlainNet.{PlainNet}
 use Rattle.plain_model.specs.declared.properties.Property.{Property}
@@ -8,7 +8,7 @@ use Rattle.plain_model.specs.Soundness.{IsInvariant}
 use Rattle.plain_text.specs.Nets.{net_text}
 use Rattle.plain_text.specs.Properties.{property_text}
 use Rattle.plain_text.specs.Certificates.{certificate_text}
-use Rattle.check_answer.specs.Answers.{Operands, form_of, IsAnswer}
+use Rattle.check_answer.specs.Answers.{Operands, IsCheckAnswer}
 use Rattle.check_answer.specs.declared.outcomes.Outcome.{Outcome}
 use Rattle.check_answer.specs.declared.outcomes.Outcome.TheVariants.{Holds}
 
@@ -23,14 +23,7 @@ pub record HasInvariant (operands : Operands) (held : Held) : Type 0 where
   pub certificate_file : bytes_of held operands.certificate ≡ Some (certificate_text certificate)
   pub invariant : IsInvariant net property
 
-abbrev pub ShowInvariantOf : Option Operands → Held → Type 0
-ShowInvariantOf None held = ⊥
-ShowInvariantOf (Some operands) held = HasInvariant operands held
-
--- the words name files of which this is true
-abbrev pub ShowInvariant : List (List ℕ) → Held → Type 0
-ShowInvariant words held = ShowInvariantOf (form_of words) held
-
 -- the answer Holds comes only where it is
 abbrev pub HoldsIsInvariant : Type 0
-HoldsIsInvariant = (words : List (List ℕ)) (held : Held) (outcome : Outcome) (text : List ℕ) → IsAnswer words held outcome text → outcome ≡ Holds → ShowInvariant words held
+HoldsIsInvariant = (operands : Operands) (held : Held) (outcome : Outcome) (text : List ℕ) → IsCheckAnswer operands held outcome text
+    → outcome ≡ Holds → HasInvariant operands held

@@ -4,7 +4,7 @@ ghost use Rattle.check_answer.specs.Answers.{TooLongIsTold};
 
 use plain_model::shown_is_invariant;
 
-/// Where the answer to a command line is [`Outcome::Holds`](crate::Outcome::Holds), the named files
+/// Where the answer of `check` is [`Outcome::Holds`](crate::Outcome::Holds), the named files
 /// are the canonical texts of a net, a property and a certificate, and the property's invariant is
 /// true in every marking that firing reaches from the net's initial marking.
 pub fn holds_is_invariant()

@@ -1,1 +1,4 @@
+pub mod Forms
+pub mod Answers
 pub mod Silences
+pub mod Written

@@ -3,6 +3,7 @@
 #![tactic(auto)]
 
 mod command;
+mod laws;
 #[cfg(test)]
 mod tests;
 

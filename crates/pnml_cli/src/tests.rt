@@ -304,3 +304,83 @@ fn failing_put_is_a_write_fault(rt: HostRuntime) -> Result<(), Fail> {
     assert_eq!(rt; status(&outcome), 3);
     Ok(())
 }
+
+/// The philosophers with names, graphics and what belongs to tools.
+fn decorated_philosophers() -> &'static [u8] {
+    b"<?xml version=\"1.0\" encoding=\"UTF-8\"?>\r\n  <pnml xmlns=\"http://www.pnml.org/version-2009/grammar/pnml\">\r\n  <net id=\"phil-3\" type=\"http://www.pnml.org/version-2009/grammar/symmetricnet\">\r\n  <name><text>Philosophers</text></name>\r\n  <toolspecific tool=\"editor\" version=\"1\"><x:size w=\"3\"/></toolspecific>\r\n  <declaration>\r\n  <text>shown</text>\r\n  <structure>\r\n  <declarations>\r\n  <namedsort id=\"Phil\" name=\"Phil\">\r\n  <cyclicenumeration>\r\n  <feconstant id=\"c1\" name=\"c1\"/>\r\n  <feconstant id=\"c2\" name=\"c2\"/>\r\n  <feconstant id=\"c3\" name=\"c3\"/>\r\n  </cyclicenumeration>\r\n  </namedsort>\r\n  <variabledecl id=\"x\" name=\"x\">\r\n  <usersort declaration=\"Phil\"/>\r\n  </variabledecl>\r\n  </declarations>\r\n  </structure>\r\n  </declaration>\r\n  <page id=\"page\">\r\n  <place id=\"Think\">\r\n  <name><text>node</text><graphics><offset x=\"0\" y=\"-10\"/></graphics></name>\r\n  <graphics><position x=\"10\" y=\"20\"/></graphics>\r\n  <type>\r\n  <text>shown</text>\r\n  <structure>\r\n  <usersort declaration=\"Phil\"/>\r\n  </structure>\r\n  </type>\r\n  <hlinitialMarking>\r\n  <text>shown</text>\r\n  <structure>\r\n  <all>\r\n  <usersort declaration=\"Phil\"/>\r\n  </all>\r\n  </structure>\r\n  </hlinitialMarking>\r\n  </place>\r\n  <place id=\"Fork\">\r\n  <name><text>node</text><graphics><offset x=\"0\" y=\"-10\"/></graphics></name>\r\n  <graphics><position x=\"10\" y=\"20\"/></graphics>\r\n  <type>\r\n  <text>shown</text>\r\n  <structure>\r\n  <usersort declaration=\"Phil\"/>\r\n  </structure>\r\n  </type>\r\n  <hlinitialMarking>\r\n  <text>shown</text>\r\n  <structure>\r\n  <all>\r\n  <usersort declaration=\"Phil\"/>\r\n  </all>\r\n  </structure>\r\n  </hlinitialMarking>\r\n  </place>\r\n  <place id=\"Eat\">\r\n  <name><text>node</text><graphics><offset x=\"0\" y=\"-10\"/></graphics></name>\r\n  <graphics><position x=\"10\" y=\"20\"/></graphics>\r\n  <type>\r\n  <text>shown</text>\r\n  <structure>\r\n  <usersort declaration=\"Phil\"/>\r\n  </structure>\r\n  </type>\r\n  </place>\r\n  <transition id=\"take\">\r\n  <name><text>node</text><graphics><offset x=\"0\" y=\"-10\"/></graphics></name>\r\n  <graphics><position x=\"10\" y=\"20\"/></graphics>\r\n  </transition>\r\n  <transition id=\"release\">\r\n  <name><text>node</text><graphics><offset x=\"0\" y=\"-10\"/></graphics></name>\r\n  <graphics><position x=\"10\" y=\"20\"/></graphics>\r\n  </transition>\r\n  <arc id=\"a1\" source=\"Think\" target=\"take\">\r\n  <hlinscription>\r\n  <text>shown</text>\r\n  <structure>\r\n  <variable refvariable=\"x\"/>\r\n  </structure>\r\n  </hlinscription>\r\n  </arc>\r\n  <arc id=\"a2\" source=\"Fork\" target=\"take\">\r\n  <hlinscription>\r\n  <text>shown</text>\r\n  <structure>\r\n  <add>\r\n  <subterm>\r\n  <variable refvariable=\"x\"/>\r\n  </subterm>\r\n  <subterm>\r\n  <successor>\r\n  <subterm>\r\n  <variable refvariable=\"x\"/>\r\n  </subterm>\r\n  </successor>\r\n  </subterm>\r\n  </add>\r\n  </structure>\r\n  </hlinscription>\r\n  </arc>\r\n  <arc id=\"a3\" source=\"take\" target=\"Eat\">\r\n  <hlinscription>\r\n  <text>shown</text>\r\n  <structure>\r\n  <variable refvariable=\"x\"/>\r\n  </structure>\r\n  </hlinscription>\r\n  </arc>\r\n  <arc id=\"a4\" source=\"Eat\" target=\"release\">\r\n  <hlinscription>\r\n  <text>shown</text>\r\n  <structure>\r\n  <variable refvariable=\"x\"/>\r\n  </structure>\r\n  </hlinscription>\r\n  </arc>\r\n  <arc id=\"a5\" source=\"release\" target=\"Think\">\r\n  <hlinscription>\r\n  <text>shown</text>\r\n  <structure>\r\n  <variable refvariable=\"x\"/>\r\n  </structure>\r\n  </hlinscription>\r\n  </arc>\r\n  <arc id=\"a6\" source=\"release\" target=\"Fork\">\r\n  <hlinscription>\r\n  <text>shown</text>\r\n  <structure>\r\n  <add>\r\n  <subterm>\r\n  <variable refvariable=\"x\"/>\r\n  </subterm>\r\n  <subterm>\r\n  <successor>\r\n  <subterm>\r\n  <variable refvariable=\"x\"/>\r\n  </subterm>\r\n  </successor>\r\n  </subterm>\r\n  </add>\r\n  </structure>\r\n  </hlinscription>\r\n  </arc>\r\n  </page>\r\n  </net>\r\n  </pnml>\r\n"
+}
+
+/// The canonical text of the philosophers.
+fn philosophers() -> &'static [u8] {
+    b"<?xml version=\"1.0\" encoding=\"UTF-8\"?>\n<pnml xmlns=\"http://www.pnml.org/version-2009/grammar/pnml\">\n<net id=\"phil-3\" type=\"http://www.pnml.org/version-2009/grammar/symmetricnet\">\n<declaration>\n<structure>\n<declarations>\n<namedsort id=\"Phil\" name=\"Phil\">\n<cyclicenumeration>\n<feconstant id=\"c1\" name=\"c1\"/>\n<feconstant id=\"c2\" name=\"c2\"/>\n<feconstant id=\"c3\" name=\"c3\"/>\n</cyclicenumeration>\n</namedsort>\n<variabledecl id=\"x\" name=\"x\">\n<usersort declaration=\"Phil\"/>\n</variabledecl>\n</declarations>\n</structure>\n</declaration>\n<page id=\"page\">\n<place id=\"Think\">\n<type>\n<structure>\n<usersort declaration=\"Phil\"/>\n</structure>\n</type>\n<hlinitialMarking>\n<structure>\n<all>\n<usersort declaration=\"Phil\"/>\n</all>\n</structure>\n</hlinitialMarking>\n</place>\n<place id=\"Fork\">\n<type>\n<structure>\n<usersort declaration=\"Phil\"/>\n</structure>\n</type>\n<hlinitialMarking>\n<structure>\n<all>\n<usersort declaration=\"Phil\"/>\n</all>\n</structure>\n</hlinitialMarking>\n</place>\n<place id=\"Eat\">\n<type>\n<structure>\n<usersort declaration=\"Phil\"/>\n</structure>\n</type>\n</place>\n<transition id=\"take\"/>\n<transition id=\"release\"/>\n<arc id=\"a1\" source=\"Think\" target=\"take\">\n<hlinscription>\n<structure>\n<variable refvariable=\"x\"/>\n</structure>\n</hlinscription>\n</arc>\n<arc id=\"a2\" source=\"Fork\" target=\"take\">\n<hlinscription>\n<structure>\n<add>\n<subterm>\n<variable refvariable=\"x\"/>\n</subterm>\n<subterm>\n<successor>\n<subterm>\n<variable refvariable=\"x\"/>\n</subterm>\n</successor>\n</subterm>\n</add>\n</structure>\n</hlinscription>\n</arc>\n<arc id=\"a3\" source=\"take\" target=\"Eat\">\n<hlinscription>\n<structure>\n<variable refvariable=\"x\"/>\n</structure>\n</hlinscription>\n</arc>\n<arc id=\"a4\" source=\"Eat\" target=\"release\">\n<hlinscription>\n<structure>\n<variable refvariable=\"x\"/>\n</structure>\n</hlinscription>\n</arc>\n<arc id=\"a5\" source=\"release\" target=\"Think\">\n<hlinscription>\n<structure>\n<variable refvariable=\"x\"/>\n</structure>\n</hlinscription>\n</arc>\n<arc id=\"a6\" source=\"release\" target=\"Fork\">\n<hlinscription>\n<structure>\n<add>\n<subterm>\n<variable refvariable=\"x\"/>\n</subterm>\n<subterm>\n<successor>\n<subterm>\n<variable refvariable=\"x\"/>\n</subterm>\n</successor>\n</subterm>\n</add>\n</structure>\n</hlinscription>\n</arc>\n</page>\n</net>\n</pnml>\n"
+}
+
+/// The outcome of the words `canon` and `n`, for a net file.
+fn canon_outcome<R: Threads + Sync>(
+    rt: &R,
+    alloc: Global,
+    net: &[u8],
+    out: &mut MemSink,
+) -> Result<Outcome, Memory> {
+    let mut entries = Vec::new(alloc);
+    entries.push(file(alloc, b"n", net)?)?;
+    let mut files = MemFiles::new(entries, Vec::new(alloc), Vec::new(alloc));
+    let mut words = Vec::new(alloc);
+    words.push(Name::new(alloc, b"canon")?)?;
+    words.push(Name::new(alloc, b"n")?)?;
+    Ok(run(rt, alloc, words.as_slice(), &mut files, out, &OpenGate))
+}
+
+#[test]
+fn decorated_philosophers_in_canonical_form(rt: HostRuntime) -> Result<(), Fail> {
+    let alloc = rt.alloc();
+    let mut out = MemSink::new(alloc, 20_000, Vec::new(alloc), Vec::new(alloc))?;
+    let outcome = canon_outcome(&rt, alloc, decorated_philosophers(), &mut out)?;
+    assert_eq!(rt; outcome, Outcome::Done);
+    assert_eq!(rt; out.bytes(), philosophers());
+    assert_eq!(rt; status(&outcome), 0);
+    Ok(())
+}
+
+/// Net files that `canon` refuses, and the lines.
+const REFUSED_NETS: &[(&[u8], &[u8])] = &[
+    (b"<a><b/></a", b"refused net malformed 10\n"),
+    (b"<a/>x", b"refused net malformed 4\n"),
+    (b"<a><b></a>", b"refused net malformed 8\n"),
+    (b"<pnml/>", b"refused net structure 0 missing-child\n"),
+    (
+        b"<pnml><net id=\"n\" type=\"x\"/></pnml>",
+        b"refused net structure 6 net-type\n",
+    ),
+    (
+        b"<pnml><net id=\"n\" type=\"http://www.pnml.org/version-2009/grammar/ptnet\"><place id=\"a\"/><place id=\"a\"/></net></pnml>",
+        b"refused net structure 87 duplicate-id\n",
+    ),
+];
+
+#[test]
+fn nets_that_canon_refuses(rt: HostRuntime) -> Result<(), Fail> {
+    let alloc = rt.alloc();
+    for (net, line) in REFUSED_NETS {
+        let mut out = sink(alloc)?;
+        let outcome = canon_outcome(&rt, alloc, net, &mut out)?;
+        assert_eq!(rt; outcome, Outcome::Refused);
+        assert_eq!(rt; out.bytes(), *line);
+        assert_eq!(rt; status(&outcome), 2);
+    }
+    Ok(())
+}
+
+#[test]
+fn elements_too_deep_for_canon(rt: HostRuntime) -> Result<(), Fail> {
+    let alloc = rt.alloc();
+    let mut net = Vec::new(alloc);
+    for _at in 0..257 {
+        net.extend_from_slice(b"<a>")?;
+    }
+    let mut out = sink(alloc)?;
+    let outcome = canon_outcome(&rt, alloc, net.as_slice(), &mut out)?;
+    assert_eq!(rt; outcome, Outcome::Refused);
+    assert_eq!(rt; out.bytes(), b"refused net deep 768\n".as_slice());
+    Ok(())
+}

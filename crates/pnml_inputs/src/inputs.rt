@@ -1,4 +1,4 @@
-ghost use Rattle.std.specs.Prelude.{◌≡◌, ℕ, ◌<◌, ◌≤◌, List, Option, ◌++◌, length, vec_len, IsTrue, true, false, IfOk, IfErr, OnOk, OnErr};
+ghost use Rattle.std.specs.Prelude.{◌≡◌, ℕ, ◌<◌, ◌≤◌, ◌^◌, List, Option, ◌++◌, length, vec_len, IsTrue, true, false, IfOk, IfErr, OnOk, OnErr};
 ghost use Rattle.std.specs.Io.KnownBytes.{Consumes, IsAtEnd};
 ghost use Rattle.host_io.specs.Causes.{Rose};
 ghost use Rattle.pnml_inputs.specs.Reading.{IsBroken, within_limit, file_reading, inputs_reading, Reads};
@@ -157,6 +157,7 @@ fn read_to_end<F: Files>(
     ensures later { F.faults files.old ≤ F.faults files.new }
     ensures read { Reads (λ bytes. bytes.items) (F.left files.old) (within_limit role)
         (F.faults files.old) (F.faults files.new) result }
+    ensures limit { IfOk result (λ bytes. length bytes.items ≤ 2 ^ 26) }
 {
     let mut bytes = Vec::new(alloc);
     while bytes.len() <= MAX_BYTES {
@@ -182,6 +183,7 @@ fn read_file<F: Files>(
     ensures later { F.faults files.old ≤ F.faults files.new }
     ensures read { Reads (λ bytes. bytes.items) (F.held files.old) (file_reading role name.now)
         (F.faults files.old) (F.faults files.new) result }
+    ensures limit { IfOk result (λ bytes. length bytes.items ≤ 2 ^ 26) }
 {
     match files.open_file(name) {
         Ok(()) => read_to_end(alloc, role, files, buffer),
@@ -193,7 +195,7 @@ fn read_file<F: Files>(
 ///
 /// Where it is told which names are held, the answer is what reading the file comes to: its bytes, or
 /// [`Stop::TooLong`] of the role. [`Stop::Fault`] comes only where the count of faults rose
-/// in this call or the name isn't held, and [`Stop::Memory`] for want of memory.
+/// in this call or the name isn't held, and [`Stop::Memory`] for want of memory. The bytes are within the limit, told or not.
 pub fn read_input<F: Files>(
     alloc: Global,
     role: Role,
@@ -204,6 +206,7 @@ pub fn read_input<F: Files>(
     ensures later { F.faults files.old ≤ F.faults files.new }
     ensures read { Reads (λ bytes. bytes.items) (F.held files.old) (file_reading role name.now)
         (F.faults files.old) (F.faults files.new) result }
+    ensures limit { IfOk result (λ bytes. length bytes.items ≤ 2 ^ 26) }
 {
     match new_buffer(alloc) {
         Ok(mut buffer) => read_file(alloc, role, name, files, &mut buffer),
