@@ -8,6 +8,7 @@ xmllint, of libxml2-utils, reads the same file and writes it with its own white.
 a temporary folder, and `canon` of what `canon` wrote has to be the same again. Each command runs three
 times, and the fastest is shown.
 """
+import filecmp
 import os
 import shutil
 import subprocess
@@ -65,11 +66,6 @@ def run(words, output):
     return best, peak
 
 
-def same(first, second):
-    with open(first, "rb") as one, open(second, "rb") as other:
-        return one.read() == other.read()
-
-
 def main():
     program = os.path.abspath(sys.argv[1])
     sizes = [int(word) for word in sys.argv[2:]] or [1, 8, 60]
@@ -81,7 +77,7 @@ def main():
                 made(maker, size * MIB, path)
                 seconds, peak = run([program, "canon", path], written)
                 subprocess.run([program, "canon", written], stdout=open(again, "wb"), check=True)
-                if not same(written, again):
+                if not filecmp.cmp(written, again, shallow=False):
                     print(f"{maker.__name__} {size}: the canonical text isn't canonised as itself")
                     sys.exit(1)
                 beside = "isn't there"
