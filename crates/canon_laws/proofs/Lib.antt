@@ -1,0 +1,11 @@
+pub mod Elements
+pub mod Numbers
+pub mod Texts
+pub mod Sorts
+pub mod Terms
+pub mod Guards
+pub mod Lists
+pub mod Labels
+pub mod Declared
+pub mod Nodes
+pub mod Spelled

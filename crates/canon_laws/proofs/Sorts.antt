@@ -1,0 +1,95 @@
+-- The sort of the tree of a sort is the sort.
+use Rattle.std.proofs.Common.{◌≡◌, ℕ, Bool, true, false, not, ◌||◌, List, [], ◌∷◌, map, refl, ap, sym, subst, ◌∙◌}
+use Rattle.std.specs.Str.{bytes_eq}
+use Rattle.doc_model.specs.declared.tree.Element.{Element}
+use Rattle.colour_sorts.specs.declared.written.SortTerm.{SortTerm, map-SortTerm, out-SortTerm, roll-SortTerm, fold-roll-SortTerm, fold_out-SortTerm}
+use Rattle.colour_sorts.specs.declared.written.SortTerm.TheFolds.{ind-SortTerm}
+use Rattle.colour_sorts.specs.declared.written.SortTerm.TheOpen as layer
+use Rattle.colour_sorts.specs.declared.written.SortTerm.TheVariants as sort
+use Rattle.net_elements.specs.declared.roles.Role.{Role}
+use Rattle.net_elements.specs.declared.roles.Role.TheVariants as role
+use Rattle.net_elements.specs.Rules.{is_aside, is_passed_over}
+use Rattle.net_elements.specs.Table.{word_of}
+use Rattle.pnml_read.specs.Nets.{given, kept}
+use Rattle.pnml_write.specs.Canon.{constant_tree, declared_id, range_tree, sort_by_parts, sort_tree}
+use Rattle.canon_laws.specs.Fitting.{are_all, sort_fits, sort_fits_by_parts}
+use Rattle.canon_laws.proofs.Elements.{branch_gives, kept_first, or_false}
+use Rattle.canon_laws.proofs.Numbers.{both_first, both_second, span_back}
+
+-- the tree of a sort is no name, graphic or tool's own, and no block of a partition
+sort_layer_aside : (y : layer.SortTerm-F Element) → is_aside (given (sort_by_parts y)).name ≡ false
+sort_layer_aside layer.Dot = ap (λ g. is_aside g.name) (branch_gives role.Dot _ _)
+sort_layer_aside (layer.Named id) = ap (λ g. is_aside g.name) (branch_gives role.UserSort _ _)
+sort_layer_aside (layer.Product parts) = ap (λ g. is_aside g.name) (branch_gives role.ProductSort _ _)
+sort_layer_aside (layer.Range span) = ap (λ g. is_aside g.name) (branch_gives role.FiniteIntRange _ _)
+sort_layer_aside (layer.Listed ids) = ap (λ g. is_aside g.name) (branch_gives role.FiniteEnumeration _ _)
+sort_layer_aside (layer.Cyclic ids) = ap (λ g. is_aside g.name) (branch_gives role.CyclicEnumeration _ _)
+
+sort_layer_block : (y : layer.SortTerm-F Element) → bytes_eq (given (sort_by_parts y)).name (word_of role.PartitionElement) ≡ false
+sort_layer_block layer.Dot = ap (λ g. bytes_eq g.name (word_of role.PartitionElement)) (branch_gives role.Dot _ _)
+sort_layer_block (layer.Named id) = ap (λ g. bytes_eq g.name (word_of role.PartitionElement)) (branch_gives role.UserSort _ _)
+sort_layer_block (layer.Product parts) = ap (λ g. bytes_eq g.name (word_of role.PartitionElement)) (branch_gives role.ProductSort _ _)
+sort_layer_block (layer.Range span) = ap (λ g. bytes_eq g.name (word_of role.PartitionElement)) (branch_gives role.FiniteIntRange _ _)
+sort_layer_block (layer.Listed ids) = ap (λ g. bytes_eq g.name (word_of role.PartitionElement)) (branch_gives role.FiniteEnumeration _ _)
+sort_layer_block (layer.Cyclic ids) = ap (λ g. bytes_eq g.name (word_of role.PartitionElement)) (branch_gives role.CyclicEnumeration _ _)
+
+pub sort_aside : (s : SortTerm) → is_aside (given (sort_tree s)).name ≡ false
+sort_aside s =
+    ap (λ e. is_aside (given e).name) (fold_out-SortTerm Element sort_by_parts s)
+    ∙ sort_layer_aside (map-SortTerm SortTerm Element sort_tree (out-SortTerm s))
+
+pub sort_is_no_block : (s : SortTerm) → bytes_eq (given (sort_tree s)).name (word_of role.PartitionElement) ≡ false
+sort_is_no_block s =
+    ap (λ e. bytes_eq (given e).name (word_of role.PartitionElement)) (fold_out-SortTerm Element sort_by_parts s)
+    ∙ sort_layer_block (map-SortTerm SortTerm Element sort_tree (out-SortTerm s))
+
+-- the constants of an enumeration
+pub constants_back : (r : Role) → is_passed_over r (word_of role.FeConstant) ≡ false → (ids : List (List ℕ)) → map (λ c. c.id) (kept r (map given (map constant_tree ids))) ≡ ids
+constants_back r h [] = refl
+constants_back r h (id ∷ ids) =
+    let is = branch_gives role.FeConstant (declared_id id) [] in
+    ap (map (λ c. c.id)) (kept_first r (given (constant_tree id)) (map given (map constant_tree ids)) (ap (λ g. is_passed_over r g.name) is ∙ h))
+    ∙ ap (λ i. i ∷ map (λ c. c.id) (kept r (map given (map constant_tree ids)))) (ap (λ g. g.id) is)
+    ∙ ap (λ rest. id ∷ rest) (constants_back r h ids)
+
+abbrev Back : SortTerm → Type 0
+Back s = sort_fits s ≡ true → (given (sort_tree s)).sort ≡ s
+
+abbrev Known : Type 0
+Known = (s : SortTerm) × Back s
+
+abbrev sort_in : Known → SortTerm
+sort_in e = e.0
+
+parts_back : (ys : List Known) → are_all (map sort_fits (map sort_in ys)) ≡ true
+    → map (λ c. c.sort) (kept role.ProductSort (map given (map sort_tree (map sort_in ys)))) ≡ map sort_in ys
+parts_back [] h = refl
+parts_back (y ∷ ys) h =
+    let first = both_first (sort_fits y.0) (are_all (map sort_fits (map sort_in ys))) h in
+    let later = both_second (sort_fits y.0) (are_all (map sort_fits (map sort_in ys))) h in
+    let rest = map given (map sort_tree (map sort_in ys)) in
+    ap (map (λ c. c.sort)) (kept_first role.ProductSort (given (sort_tree y.0)) rest (or_false (is_aside (given (sort_tree y.0)).name) (sort_aside y.0)))
+    ∙ ap (λ s. s ∷ map (λ c. c.sort) (kept role.ProductSort rest)) (y.1 first)
+    ∙ ap (λ later. y.0 ∷ later) (parts_back ys later)
+
+abbrev plain : layer.SortTerm-F Known → layer.SortTerm-F SortTerm
+plain y = map-SortTerm Known SortTerm sort_in y
+
+layer_back : (y : layer.SortTerm-F Known) → sort_fits_by_parts (map-SortTerm SortTerm Bool sort_fits (plain y)) ≡ true
+    → (given (sort_by_parts (map-SortTerm SortTerm Element sort_tree (plain y)))).sort ≡ roll-SortTerm (plain y)
+layer_back layer.Dot h = ap (λ g. g.sort) (branch_gives role.Dot _ _) ∙ sym sort.rolls-Dot
+layer_back (layer.Named id) h = ap (λ g. g.sort) (branch_gives role.UserSort _ _) ∙ sym (sort.rolls-Named id)
+layer_back (layer.Product ys) h =
+    ap (λ g. g.sort) (branch_gives role.ProductSort _ _) ∙ ap sort.Product (parts_back ys h) ∙ sym (sort.rolls-Product (map sort_in ys))
+layer_back (layer.Range span) h = ap (λ g. g.sort) (branch_gives role.FiniteIntRange _ _) ∙ ap sort.Range (span_back span h) ∙ sym (sort.rolls-Range span)
+layer_back (layer.Listed ids) h =
+    ap (λ g. g.sort) (branch_gives role.FiniteEnumeration _ _) ∙ ap sort.Listed (constants_back role.FiniteEnumeration refl ids) ∙ sym (sort.rolls-Listed ids)
+layer_back (layer.Cyclic ids) h =
+    ap (λ g. g.sort) (branch_gives role.CyclicEnumeration _ _) ∙ ap sort.Cyclic (constants_back role.CyclicEnumeration refl ids) ∙ sym (sort.rolls-Cyclic ids)
+
+pub sort_back : (s : SortTerm) → sort_fits s ≡ true → (given (sort_tree s)).sort ≡ s
+sort_back = ind-SortTerm Back (λ x y is.
+    subst (λ z. Back (roll-SortTerm z)) is
+    (λ h.
+    ap (λ e. (given e).sort) (fold-roll-SortTerm Element sort_by_parts (plain y))
+    ∙ layer_back y (sym (fold-roll-SortTerm Bool sort_fits_by_parts (plain y)) ∙ h)))

@@ -1,0 +1,27 @@
+-- Canonical trees and texts give the net that they are of.
+use Rattle.std.specs.Prelude.{◌≡◌}
+use Rattle.doc_model.specs.declared.tree.Element.{Element}
+use Rattle.doc_tree.specs.Documents.{Spells}
+use Rattle.doc_tree.specs.Writable.{IsWritable}
+use Rattle.net_model.specs.declared.nets.Net.{Net}
+use Rattle.pnml_read.specs.Nets.{net_of}
+use Rattle.pnml_write.specs.Canon.{canonical_text, tree_of}
+use Rattle.canon_laws.specs.Fitting.{NetFits}
+
+-- the canonical tree of a net gives the net again
+abbrev pub TreesGiveTheNet : Type 0
+TreesGiveTheNet = (net : Net) → NetFits net → net_of (tree_of net) ≡ net
+
+-- where its tree can be written, the canonical text of a net spells a tree that gives the net again
+abbrev pub TextsGiveTheNet : Type 0
+TextsGiveTheNet = (net : Net) → NetFits net → IsWritable (tree_of net) → (t : Element) × Spells (canonical_text net) t × (net_of t ≡ net)
+
+-- two such nets with the same canonical text are the same
+abbrev pub TextsTellNetsApart : Type 0
+TextsTellNetsApart =
+    (n m : Net) → NetFits n → NetFits m → IsWritable (tree_of n) → IsWritable (tree_of m) → canonical_text n ≡ canonical_text m → n ≡ m
+
+-- reading and writing a canonical text again changes nothing
+abbrev pub CanonicalTextsStay : Type 0
+CanonicalTextsStay =
+    (net : Net) → NetFits net → IsWritable (tree_of net) → (t : Element) → Spells (canonical_text net) t → canonical_text (net_of t) ≡ canonical_text net
