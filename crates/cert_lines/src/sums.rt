@@ -134,10 +134,10 @@ fn amount_of(alloc: Global, multiplier: &Multiplier) -> Result<Amount, Memory>
 fn hypothesis_name(alloc: Global, number: u32) -> Result<Name, Memory>
     ensures { IfOk result (λ name. name ≡ 64 ∷ decimal number) }
 {
-    let mut bytes = Vec::with_capacity(alloc, 11)?;
-    bytes.push(b'@')?;
-    bytes.extend_from_slice(Buffer::new().format(number).as_bytes())?;
-    Ok(Name::from(bytes))
+    let mut name = Name::empty(alloc);
+    name.push(b'@')?;
+    name.append(Buffer::new().format(number).as_bytes())?;
+    Ok(name)
 }
 
 /// Whether the absolute values on one name add up past 2^63 - 1.

@@ -58,7 +58,7 @@ impl Draft {
     {
         Ok(Draft {
             stage: Stage::Version,
-            property: Name::from(Vec::new(alloc)),
+            property: Name::empty(alloc),
             facts: Facts::new(alloc),
             tree: Vec::new(alloc),
             opens: Opens::new(alloc),

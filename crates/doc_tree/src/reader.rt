@@ -43,14 +43,14 @@ fn fault_of(place: &Place, part: Part, opens: &Stack, at: u64) -> Option<DocFaul
     }
 }
 
-/// The tree, where the reader stands behind a whole document.
-fn ended_of(place: Place, part: Part, opens: Stack, root: Option<Element>) -> Option<Element>
-    ensures { result ≡ ended_of (state place part opens root) }
+/// The tree, which is taken, where the reader stands behind a whole document.
+fn ended_of(place: &Place, part: Part, opens: &Stack, root: &mut Option<Element>) -> Option<Element>
+    ensures { result ≡ ended_of (state place.now part opens.now root.old) }
 {
     match place {
         Place::Between => {
             if part == Part::Whole && opens.is_empty() {
-                return root;
+                return root.take();
             }
             None
         }
@@ -186,28 +186,28 @@ impl Reader {
         }
     }
 
+    /// The tree, which is taken, or the fault.
+    fn answer(&mut self) -> Result<Element, DocFault>
+        ensures answer { (b : List ℕ) → HasRead self.old b → FinishAnswer b result }
+        ensures again { (fault : DocFault) → self.old.fault ≡ Some fault → result ≡ Err fault }
+    {
+        match self.fault {
+            Some(fault) => Err(fault),
+            None => match ended_of(&self.place, self.part, &self.opens, &mut self.root) {
+                Some(element) => Ok(element),
+                None => Err(DocFault::Malformed { offset: self.count }),
+            },
+        }
+    }
+
     /// The tree of the bytes that were fed. The error of a `feed` is given again; without one, bytes that are no whole document are
     /// `Malformed` at their number.
     pub fn finish(self) -> Result<Element, DocFault>
         ensures answer { (b : List ℕ) → HasRead self b → FinishAnswer b result }
         ensures again { (fault : DocFault) → self.fault ≡ Some fault → result ≡ Err fault }
     {
-        let Reader {
-            alloc: _,
-            place,
-            part,
-            opens,
-            root,
-            count,
-            fault,
-        } = self;
-        match fault {
-            Some(fault) => Err(fault),
-            None => match ended_of(place, part, opens, root) {
-                Some(element) => Ok(element),
-                None => Err(DocFault::Malformed { offset: count }),
-            },
-        }
+        let mut reader = self;
+        reader.answer()
     }
 }
 

@@ -38,7 +38,7 @@ pub fn shown(alloc: Global, characters: Name) -> Name
     ensures { result ≡ shown characters }
 {
     if are_white(characters.bytes()) {
-        return Name::from(Vec::new(alloc));
+        return Name::empty(alloc);
     }
     characters
 }
@@ -79,7 +79,7 @@ fn refuse(into: &mut Place, at: u64)
 fn take_name(alloc: Global, name: &mut Name) -> Name
     ensures { result ≡ name.old }
 {
-    mem::replace(name, Name::from(Vec::new(alloc)))
+    mem::replace(name, Name::empty(alloc))
 }
 
 /// The tag, taken out of where it stands.
@@ -88,7 +88,7 @@ pub fn take_tag(alloc: Global, tag: &mut Tag) -> Tag
 {
     let nothing = Tag {
         at: 0,
-        name: Name::from(Vec::new(alloc)),
+        name: Name::empty(alloc),
         attributes: Attributes::new(alloc),
     };
     mem::replace(tag, nothing)
@@ -173,7 +173,7 @@ fn step_between(opens: &mut Stack, into: &mut Place, at: u64, byte: u8) -> Resul
 fn first_of_name(alloc: Global, byte: u8) -> Result<Name, Memory>
     ensures { IfOk result (λ name. name ≡ byte ∷ []) }
 {
-    let mut name = Name::from(Vec::with_capacity(alloc, 16)?);
+    let mut name = Name::empty(alloc);
     name.push(byte)?;
     Ok(name)
 }
@@ -254,7 +254,7 @@ fn after_tag(alloc: Global, opens: &mut Stack, tag: Tag, at: u64, byte: u8) -> R
             name,
             attributes: attributes.into_items(),
             children: Items::new(alloc),
-            text: Name::from(Vec::new(alloc)),
+            text: Name::empty(alloc),
         })?;
         return Ok(Place::Between);
     }
@@ -328,10 +328,10 @@ fn equals(alloc: Global, tag: Tag, key: Name, at: u64, byte: u8) -> Place
         return Place::Equals(tag, key);
     }
     if byte == b'"' {
-        return Place::Value(tag, key, Quote::Double, Name::from(Vec::new(alloc)));
+        return Place::Value(tag, key, Quote::Double, Name::empty(alloc));
     }
     if byte == b'\'' {
-        return Place::Value(tag, key, Quote::Single, Name::from(Vec::new(alloc)));
+        return Place::Value(tag, key, Quote::Single, Name::empty(alloc));
     }
     Place::Refused(at)
 }
@@ -394,7 +394,7 @@ fn slash(
         name,
         attributes: attributes.into_items(),
         children: Items::new(alloc),
-        text: Name::from(Vec::new(alloc)),
+        text: Name::empty(alloc),
     };
     close(alloc, opens, root, element)?;
     Ok(Place::Between)

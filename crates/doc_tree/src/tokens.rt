@@ -42,7 +42,7 @@ fn opened(alloc: Global, at: u64, name: Name) -> Open
         name,
         attributes: Items::new(alloc),
         children: Items::new(alloc),
-        text: Name::from(Vec::new(alloc)),
+        text: Name::empty(alloc),
     }
 }
 

@@ -1,6 +1,6 @@
--- The place of a key whose image passes a test.
+-- The place of a name among names.
 use Rattle.std.proofs.Common.{◌≡◌, ℕ, ◌+◌, ◌<◌, Bool, true, false, cond, not, nat_lt, List, [], ◌∷◌, ◌++◌, map, length, None, Some, position, ◌||◌, refl, sym, ap, ◌∙◌, arith, get_or}
-use Rattle.std.proofs.lemmas.List.{length-map, map-append}
+use Rattle.std.proofs.lemmas.List.{length-map}
 use Rattle.std.proofs.lemmas.List.Sums.{position_or_len_is}
 use Rattle.std.proofs.lemmas.Map.Keys.{apart_from_distinct}
 use Rattle.std.specs.List.{IsDistinct}
@@ -44,35 +44,37 @@ position_none p xs none = let e = position_or_len_none p xs none in grind (arith
 pub position_some : {X : Type 0} (p : X → Bool) (xs : List X) → list_any p xs ≡ true → position p xs ≡ Some (position_or_len p xs)
 position_some p xs some = let e = position_or_len_some p xs some in grind (arith, nat_tests)
 
--- what an insertion into a list of keys does to their names
-pub IsAdded-new : {X : Type 0} (f : X → List ℕ) (keys : List X) (key : X) (at : ℕ) (is_new : Bool) (after : List X)
-    → is_new ≡ not (list_any (λ k. bytes_eq (f key) (f k)) keys) → at ≡ position_or_len (λ k. bytes_eq (f key) (f k)) keys
-    → after ≡ cond (list_any (λ k. bytes_eq (f key) (f k)) keys) keys (keys ++ key ∷ []) → is_new ≡ true
-    → IsAdded (map f keys) (f key) (New at) (map f after)
-IsAdded-new f keys key at is_new after added place grown fresh =
-    let none = not-true _ (sym added ∙ fresh) in (
-      position-map f (bytes_eq (f key)) keys ∙ position_none _ keys none,
-      place ∙ position_or_len_none _ keys none ∙ sym (length-map keys f),
-      ap (map f) (grown ∙ cond-false _ _ _ none) ∙ map-append f keys (key ∷ []),
-    )
+-- what an insertion into a list of names does to it
+pub name_added-new : (keys : List (List ℕ)) (key : List ℕ) (at : ℕ) (is_new : Bool) (after : List (List ℕ))
+    → is_new ≡ not (list_any (bytes_eq key) keys) → at ≡ position_or_len (bytes_eq key) keys
+    → after ≡ cond (list_any (bytes_eq key) keys) keys (keys ++ key ∷ []) → is_new ≡ true
+    → IsAdded keys key (New at) after
+name_added-new keys key at is_new after added place grown fresh =
+    let none = not-true _ (sym added ∙ fresh) in
+    (position_none _ keys none, place ∙ position_or_len_none _ keys none, grown ∙ cond-false _ _ _ none)
 
-pub IsAdded-old : {X : Type 0} (f : X → List ℕ) (keys : List X) (key : X) (at : ℕ) (is_new : Bool) (after : List X)
-    → is_new ≡ not (list_any (λ k. bytes_eq (f key) (f k)) keys) → at ≡ position_or_len (λ k. bytes_eq (f key) (f k)) keys
-    → after ≡ cond (list_any (λ k. bytes_eq (f key) (f k)) keys) keys (keys ++ key ∷ []) → is_new ≡ false
-    → IsAdded (map f keys) (f key) (Old at) (map f after)
-IsAdded-old f keys key at is_new after added place kept known =
+pub name_added-old : (keys : List (List ℕ)) (key : List ℕ) (at : ℕ) (is_new : Bool) (after : List (List ℕ))
+    → is_new ≡ not (list_any (bytes_eq key) keys) → at ≡ position_or_len (bytes_eq key) keys
+    → after ≡ cond (list_any (bytes_eq key) keys) keys (keys ++ key ∷ []) → is_new ≡ false
+    → IsAdded keys key (Old at) after
+name_added-old keys key at is_new after added place kept known =
     let some = not-false _ (sym added ∙ known) in
-    (position-map f (bytes_eq (f key)) keys ∙ position_some _ keys some ∙ ap Some (sym place), ap (map f) (kept ∙ cond-true _ _ _ some))
+    (position_some _ keys some ∙ ap Some (sym place), kept ∙ cond-true _ _ _ some)
 
 -- where the keys' names are distinct, each name has the place of its key
-pub number_in-distinct : {X : Type 0} (f : X → List ℕ) (keys : List X) (at : ℕ) (d : X)
-    → IsDistinct (λ j k. bytes_eq (f j) (f k)) keys → at < length keys → number_in (map f keys) (f (get_or keys at d)) ≡ Some at
-number_in-distinct f keys at d distinct within =
+pub place_of_key : {X : Type 0} (f : X → List ℕ) (keys : List X) (at : ℕ) (d : X)
+    → IsDistinct (λ j k. bytes_eq (f j) (f k)) keys → at < length keys → position (λ k. bytes_eq (f (get_or keys at d)) (f k)) keys ≡ Some at
+place_of_key f keys at d distinct within =
     let name = f (get_or keys at d) in
     let place = position_or_len_is (λ k. bytes_eq name (f k)) keys at d (omega arith)
     (λ k before. nat_list_eq_equiv.symm name (f (get_or keys k d)) ∙ apart_from_distinct (λ j k. bytes_eq (f j) (f k)) keys k at d distinct before within)
     (λ _. nat_list_eq_equiv.refl name) in
-    position-map f (bytes_eq name) keys ∙ found _ (length keys) place within
+    found _ (length keys) place within
   where
     found : (n m : ℕ) → n ≡ at → at < m → cond (nat_lt n m) (Some n) None ≡ Some at
     found n m e w = grind (arith, nat_tests)
+
+-- distinct names have the numbers of their places
+pub name_has_its_number : (keys : List (List ℕ)) (at : ℕ) (d : List ℕ)
+    → IsDistinct bytes_eq keys → at < length keys → number_in keys (get_or keys at d) ≡ Some at
+name_has_its_number keys = place_of_key (λ name. name) keys

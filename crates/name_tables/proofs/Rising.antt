@@ -14,7 +14,7 @@ use Rattle.std.proofs.lemmas.Map.Keys.{Less-from_sorted, IsDistinct-from_apart}
 use Rattle.std.proofs.lemmas.Map.Text.{is_eq-slice_cmp}
 use Rattle.std.proofs.lemmas.Option.{slice_get_within, get_or_from_slice_get, slice_get-get_or}
 use Rattle.std.proofs.lemmas.Slice.Eq.{bytes_eq-Decides}
-use Rattle.name_tables.proofs.Places.{number_in-distinct, position_none}
+use Rattle.name_tables.proofs.Places.{place_of_key, position-map, position_none}
 use Rattle.name_tables.specs.Numbering.{number_in}
 use Rattle.name_tables.specs.Tables.{are_rising}
 
@@ -63,7 +63,7 @@ distinct words h =
 -- the word of a row has the place of the row
 pub place_of_row : (words : List (Bor (List ℕ))) (at : ℕ) (d : Bor (List ℕ)) → IsTrue (are_rising (rows words)) → at < length words
     → number_in (rows words) (get_or words at d).now ≡ Some at
-place_of_row words at d h within = number_in-distinct text words at d (distinct words h) within
+place_of_row words at d h within = position-map text (bytes_eq (get_or words at d).now) words ∙ place_of_key text words at d (distinct words h) within
 
 -- what a search by order answers: a row that holds the word, or a place with lower rows before it and higher rows from it on
 abbrev pub Holds : List (Bor (List ℕ)) → List ℕ → ℕ → Type 0

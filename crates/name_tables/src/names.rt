@@ -1,15 +1,18 @@
 ghost use Rattle.std.specs.Prelude.{◌≡◌, [], ◌∷◌, ◌++◌, IfOk, OnOk, OnErr};
 
+use indexmap::Equivalent;
+use smallvec::SmallVec;
 use std::alloc::Global;
 use std::cmp::Ordering;
 use std::hash::{Hash, Hasher};
 use std::marker::Model;
 use wide_sums::Memory;
 
-/// A name: any byte string, seen by contracts as the list of its bytes.
+/// A name: any byte string, seen by contracts as the list of its bytes. Up to 16 bytes stand in the name itself and take
+/// no memory.
 #[derive(Debug, Drop)]
 pub struct Name {
-    bytes: Vec<u8>,
+    bytes: SmallVec<u8, 16>,
 }
 
 impl Model for Name {
@@ -21,12 +24,21 @@ impl Model for Name {
 }
 
 impl Name {
+    /// The name of no bytes; it takes no memory.
+    pub fn empty(alloc: Global) -> Name
+        ensures { result ≡ [] }
+    {
+        Name {
+            bytes: SmallVec::new(alloc),
+        }
+    }
+
     /// The name of these bytes.
     pub fn new(alloc: Global, bytes: &[u8]) -> Result<Name, Memory>
         ensures { IfOk result (λ name. name ≡ bytes.now) }
     {
         Ok(Name {
-            bytes: Vec::from_slice(alloc, bytes)?,
+            bytes: SmallVec::from_slice(alloc, bytes)?,
         })
     }
 
@@ -61,22 +73,16 @@ impl Name {
         self.bytes.extend_from_slice(bytes)?;
         Ok(())
     }
-
-    /// The vector of the bytes; it takes no memory.
-    pub fn into_bytes(self) -> Vec<u8>
-        ensures { result.items ≡ self }
-    {
-        let Name { bytes } = self;
-        bytes
-    }
 }
 
-/// A vector becomes a name as it is; it takes no memory.
+/// A vector of more than 16 bytes becomes a name as it is, and a shorter one is moved; neither takes memory.
 impl From<Vec<u8>> for Name {
     ghost from_gives = { λ bytes name. name ≡ bytes.items };
 
     fn from(bytes: Vec<u8>) -> Name {
-        Name { bytes }
+        Name {
+            bytes: SmallVec::from_vec(bytes),
+        }
     }
 }
 
@@ -149,5 +155,24 @@ impl Hash for Name {
 
     fn hash<H: Hasher>(&self, state: &mut H) {
         self.bytes().hash(state);
+    }
+}
+
+/// Names are looked up by their bytes.
+impl Equivalent<Name> for &[u8] {
+    ghost use Rattle.std.specs.Cmp.Lexicographic.{bytes_decides};
+    ghost use Rattle.std.specs.Hash as fed;
+    ghost use Rattle.std.specs.Str.{bytes_eq};
+    ghost use Rattle.std.proofs.Common.{ap};
+    ghost use Rattle.std.proofs.lemmas.Cmp.{nat_list_eq_equiv};
+
+    ghost equivalent = { λ q k. bytes_eq q.now k };
+
+    ghost respects_hash = { λ q k h. ap (fed.slice fed.u8) ((bytes_decides q.now k).0 h) };
+
+    ghost respects_eq = { λ q x y. nat_list_eq_equiv.congr q.now x y };
+
+    fn equivalent(&self, key: &Name) -> bool {
+        *self == key.bytes()
     }
 }

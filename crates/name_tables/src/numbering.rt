@@ -16,15 +16,15 @@ pub enum Added {
 /// Distinct names, numbered from 0 in the order in which they came. Contracts see the list of the names.
 #[derive(Debug, Drop)]
 pub struct Ids {
-    set: IndexSet<Vec<u8>>,
+    set: IndexSet<Name>,
 }
 
 impl Model for Ids {
-    ghost use Rattle.std.specs.Prelude.{ℕ, ◌<◌, ◌^◌, List, length, map};
+    ghost use Rattle.std.specs.Prelude.{ℕ, ◌<◌, ◌^◌, List, length};
 
     ghost Value = { List (List ℕ) };
 
-    ghost view = { λ ids. map (λ v. v.items) ids.set.keys };
+    ghost view = { λ ids. ids.set.keys };
 
     ghost invariant = { λ ids. length ids.set.keys < 2 ^ 32 };
 }
@@ -47,7 +47,7 @@ impl Ids {
         ensures added { IfOk result (λ added. IsAdded self.old name added self.new) }
         ensures err { OnErr result (self.new ≡ self.old) }
     {
-        let (at, is_new) = self.set.insert_full(name.into_bytes())?;
+        let (at, is_new) = self.set.insert_full(name)?;
         let number = at as u32;
         if is_new {
             return Ok(Added::New(number));
@@ -71,7 +71,7 @@ impl Ids {
         ensures name { slice_get self.now at ≡ Some result.now }
         ensures distinct { number_in self.now result.now ≡ Some at }
     {
-        self.set.as_slice()[at as usize].as_slice()
+        self.set.as_slice()[at as usize].bytes()
     }
 
     /// How many names there are.

@@ -1,3 +1,4 @@
+pub mod Borrowed
 pub mod Distinct
 pub mod Rows
 pub mod Ends
