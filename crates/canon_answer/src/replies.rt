@@ -1,4 +1,5 @@
 ghost use Rattle.std.specs.Prelude.{◌≡◌, ◌≤◌, ◌^◌, [], length, IfOk, IfErr, OnOk};
+ghost use Rattle.doc_tree.specs.Reading.{FinishAnswer};
 ghost use Rattle.net_elements.specs.Rules.{broken_rules};
 ghost use Rattle.net_elements.specs.Walking.{IsFirst};
 ghost use Rattle.pnml_read.specs.Nets.{net_of};
@@ -60,15 +61,24 @@ fn refused_at(alloc: Global, word: &[u8], at: u64) -> Result<Reply, Memory>
     })
 }
 
+/// The tree of these bytes, which are let go.
+fn tree_from(alloc: Global, bytes: Vec<u8>) -> Result<Element, DocFault>
+    requires { length bytes.items ≤ 2 ^ 26 }
+    ensures { FinishAnswer bytes.items result }
+{
+    read_pieces(alloc, &[bytes.as_slice()])
+}
+
 /// The reply to the bytes of a net file: the canonical text of its net; or the line `refused net malformed` or
 /// `refused net deep` with the offset, where the bytes are no document; or `refused net structure` with the offset of the
-/// first element that breaks a rule, and the rule. [`Memory`] comes for want of memory.
-pub fn canon(alloc: Global, bytes: &[u8]) -> Result<Reply, Memory>
-    requires { length bytes.now ≤ 2 ^ 26 }
+/// first element that breaks a rule, and the rule. The bytes are let go once the tree is read. [`Memory`] comes for
+/// want of memory.
+pub fn canon(alloc: Global, bytes: Vec<u8>) -> Result<Reply, Memory>
+    requires { length bytes.items ≤ 2 ^ 26 }
     ensures is_final { IfOk result (λ reply. IsFinal reply.outcome) }
-    ensures answer { IfOk result (λ reply. IsCanon bytes.now reply.outcome reply.text.items) }
+    ensures answer { IfOk result (λ reply. IsCanon bytes.items reply.outcome reply.text.items) }
 {
-    match read_pieces(alloc, &[bytes]) {
+    match tree_from(alloc, bytes) {
         Ok(root) => reply_to(alloc, root),
         Err(DocFault::Malformed { offset }) => refused_at(alloc, b"malformed", offset),
         Err(DocFault::Deep { offset }) => refused_at(alloc, b"deep", offset),

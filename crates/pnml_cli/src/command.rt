@@ -68,10 +68,10 @@ fn form_of(words: &[Name]) -> Option<Form<'_>>
 }
 
 /// The reply to the text of a net.
-fn canon_of(alloc: Global, bytes: &[u8]) -> Result<Reply, Silence>
-    requires { length bytes.now ≤ 2 ^ 26 }
+fn canon_of(alloc: Global, bytes: Vec<u8>) -> Result<Reply, Silence>
+    requires { length bytes.items ≤ 2 ^ 26 }
     ensures is_final { IfOk result (λ reply. IsFinal reply.outcome) }
-    ensures answer { IfOk result (λ reply. IsCanon bytes.now reply.outcome reply.text.items) }
+    ensures answer { IfOk result (λ reply. IsCanon bytes.items reply.outcome reply.text.items) }
     ensures silence { OnErr result (result ≡ Err Silence.Memory) }
 {
     match canon(alloc, bytes) {
@@ -113,7 +113,7 @@ fn canon_reply<F: Files>(alloc: Global, net: &Name, files: &mut F) -> Result<Rep
         (Silences (canon_form net.now) (F.held files.old) (F.faults files.old) (F.faults files.new)) }
 {
     match read_input(alloc, Role::Net, net, files) {
-        Ok(bytes) => canon_of(alloc, bytes.as_slice()),
+        Ok(bytes) => canon_of(alloc, bytes),
         Err(Stop::TooLong(role)) => too_long_reply(alloc, role),
         Err(Stop::Fault) => Err(Silence::ReadFault),
         Err(Stop::Memory) => Err(Silence::Memory),
