@@ -1,6 +1,7 @@
 //! The canonical texts of nets, as net files (ISO/IEC 15909-2).
 #![tactic(auto)]
 
+mod counts;
 mod elements;
 mod guards;
 mod labels;

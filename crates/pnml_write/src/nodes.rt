@@ -1,20 +1,67 @@
-ghost use Rattle.std.specs.Prelude.{◌≡◌, IfOk, map};
+ghost use Rattle.std.specs.Prelude.{◌≡◌, ◌++◌, IfOk, OnOk, map};
+ghost use Rattle.doc_model.specs.Texts.{text_of};
 ghost use Rattle.pnml_write.specs.Canon.{arc_tree, block_tree, member_tree, named_sort_tree, partition_tree, place_tree, reference_role, reference_tree, transition_tree, variable_tree};
 
+use crate::counts::{put_counted_arc, put_counted_place, put_plain_transition};
 use crate::elements::{add_attribute, bare, branch, declared_id, leaf_with, one_attribute, only};
 use crate::labels::{add_condition, add_inscription, add_marking, add_type};
 use crate::sorts::sort_tree;
 use crate::terms::{operator_tree, range_constant_tree};
 use colour_sorts::{Block, Member, NamedSort, Partition};
-use doc_model::Element;
+use doc_model::{Element, TextWriter};
 use net_elements::{Kind, Role};
-use net_model::{Arc, Place, RefKind, Reference, Transition, VariableDecl};
+use net_model::{Arc, Label, Place, RefKind, Reference, Transition, VariableDecl};
 use sqlite_items::Items;
 use std::alloc::Global;
 use wide_sums::Memory;
 
+/// Writes a place; with a number as its marking no tree is made.
+pub fn put_place(
+    alloc: Global,
+    writer: &mut TextWriter,
+    kind: Kind,
+    place: &Place,
+) -> Result<(), Memory>
+    ensures { OnOk result (writer.new ≡ writer.old ++ text_of (place_tree kind place.now)) }
+{
+    match (kind, &place.marking) {
+        (Kind::Pt, Label::Count(count)) => { put_counted_place(writer, place.id.bytes(), *count) }
+        _ => writer.element(&place_tree(alloc, kind, place)?),
+    }
+}
+
+/// Writes a transition; without a guard no tree is made.
+pub fn put_transition(
+    alloc: Global,
+    writer: &mut TextWriter,
+    transition: &Transition,
+) -> Result<(), Memory>
+    ensures { OnOk result (writer.new ≡ writer.old ++ text_of (transition_tree transition.now)) }
+{
+    match &transition.guard {
+        None => put_plain_transition(writer, transition.id.bytes()),
+        Some(_) => writer.element(&transition_tree(alloc, transition)?),
+    }
+}
+
+/// Writes an arc; with a number as its inscription no tree is made.
+pub fn put_arc(alloc: Global, writer: &mut TextWriter, arc: &Arc) -> Result<(), Memory>
+    ensures { OnOk result (writer.new ≡ writer.old ++ text_of (arc_tree arc.now)) }
+{
+    match &arc.label {
+        Label::Count(count) => put_counted_arc(
+            writer,
+            arc.id.bytes(),
+            arc.source.bytes(),
+            arc.target.bytes(),
+            *count,
+        ),
+        _ => writer.element(&arc_tree(alloc, arc)?),
+    }
+}
+
 /// The tree of a place.
-pub fn place_tree(alloc: Global, kind: Kind, place: &Place) -> Result<Element, Memory>
+fn place_tree(alloc: Global, kind: Kind, place: &Place) -> Result<Element, Memory>
     ensures { IfOk result (λ tree. tree ≡ place_tree kind place.now) }
 {
     let mut labels = Items::new(alloc);
@@ -25,7 +72,7 @@ pub fn place_tree(alloc: Global, kind: Kind, place: &Place) -> Result<Element, M
 }
 
 /// The tree of a transition.
-pub fn transition_tree(alloc: Global, transition: &Transition) -> Result<Element, Memory>
+fn transition_tree(alloc: Global, transition: &Transition) -> Result<Element, Memory>
     ensures { IfOk result (λ tree. tree ≡ transition_tree transition.now) }
 {
     let mut labels = Items::new(alloc);
@@ -53,7 +100,7 @@ fn reference_role(kind: RefKind) -> Role
 }
 
 /// The tree of an arc.
-pub fn arc_tree(alloc: Global, arc: &Arc) -> Result<Element, Memory>
+fn arc_tree(alloc: Global, arc: &Arc) -> Result<Element, Memory>
     ensures { IfOk result (λ tree. tree ≡ arc_tree arc.now) }
 {
     let mut attributes = one_attribute(alloc, b"id", arc.id.bytes())?;

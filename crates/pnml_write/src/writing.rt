@@ -5,7 +5,7 @@ ghost use Rattle.pnml_write.specs.Canon.{arc_tree, canonical_text, declaration_t
 
 use crate::elements::{around, holder};
 use crate::nodes::{
-    arc_tree, named_sort_tree, partition_tree, place_tree, reference_tree, transition_tree,
+    named_sort_tree, partition_tree, put_arc, put_place, put_transition, reference_tree,
     variable_tree,
 };
 use doc_model::{Element, TextWriter};
@@ -151,7 +151,7 @@ fn put_places(
     ensures { OnOk result (writer.new ≡ writer.old ++ flat_map text_of (map (place_tree kind) places.now)) }
 {
     for place in places {
-        writer.element(&place_tree(alloc, kind, place)?)?;
+        put_place(alloc, writer, kind, place)?;
     }
     Ok(())
 }
@@ -164,7 +164,7 @@ fn put_transitions(
     ensures { OnOk result (writer.new ≡ writer.old ++ flat_map text_of (map transition_tree transitions.now)) }
 {
     for transition in transitions {
-        writer.element(&transition_tree(alloc, transition)?)?;
+        put_transition(alloc, writer, transition)?;
     }
     Ok(())
 }
@@ -186,7 +186,7 @@ fn put_arcs(alloc: Global, writer: &mut TextWriter, arcs: &[Arc]) -> Result<(), 
     ensures { OnOk result (writer.new ≡ writer.old ++ flat_map text_of (map arc_tree arcs.now)) }
 {
     for arc in arcs {
-        writer.element(&arc_tree(alloc, arc)?)?;
+        put_arc(alloc, writer, arc)?;
     }
     Ok(())
 }
