@@ -1,13 +1,17 @@
--- What elements that are made of a role, attributes and children give; and which of them is a child.
-use Rattle.std.proofs.Common.{◌≡◌, ℕ, Bool, true, false, not, cond, ◌||◌, List, [], ◌∷◌, map, slice_index_or, refl, ap, ◌∙◌}
+-- What elements give, from their name, attributes and children; and which of them is a child.
+use Rattle.std.proofs.Common.{◌≡◌, ℕ, Bool, true, false, not, cond, ◌||◌, List, [], ◌∷◌, map, slice_index_or, refl, ap, sym, ◌∙◌}
+use Rattle.std.proofs.lemmas.Bool.{and_parts}
 use Rattle.doc_model.specs.declared.tree.Attribute.{Attribute}
-use Rattle.doc_model.specs.declared.tree.Element.{Element, fold-roll-Element}
+use Rattle.doc_model.specs.declared.tree.Element.{Element, fold-roll-Element, fold_out-Element, out-Element}
 use Rattle.doc_model.specs.Trees.{element}
 use Rattle.net_elements.specs.declared.roles.Role.{Role}
 use Rattle.net_elements.specs.Table.{word_of}
-use Rattle.net_elements.specs.Rules.{is_aside, is_passed_over}
+use Rattle.net_elements.specs.Rules.{is_passed_over, walk_of}
+use Rattle.net_elements.specs.Walking.{name_of}
+use Rattle.net_elements.proofs.Walks.{walk_name}
 use Rattle.pnml_read.specs.Nets.{Given, given, given_by_parts, child, kept, nothing}
 use Rattle.pnml_write.specs.Canon.{branch}
+use Rattle.canon_laws.specs.Fitting.{are_all}
 
 -- what an element gives, from what its children give
 abbrev pub gives : List ℕ → List Attribute → List Given → List ℕ → Given
@@ -38,3 +42,34 @@ second_child r g h gs first second =
 -- a name that isn't set aside is passed over by no role but a label's
 pub or_false : (a : Bool) → a ≡ false → (a || false) ≡ false
 or_false a h = ap (λ b. b || false) h
+
+-- what an element gives, from its parts
+pub given_parts : (e : Element) → given e ≡ gives (out-Element e).name (out-Element e).attributes (map given (out-Element e).children) (out-Element e).text
+given_parts e = fold_out-Element Given given_by_parts e
+
+pub given_name : (e : Element) → (given e).name ≡ (out-Element e).name
+given_name e = ap (λ g. g.name) (given_parts e)
+
+pub given_names : (es : List Element) → map (λ g. g.name) (map given es) ≡ map name_of es
+given_names [] = refl
+given_names (e ∷ es) = ap (λ n. n ∷ map (λ g. g.name) (map given es)) (given_name e) ∙ ap (λ ns. name_of e ∷ ns) (given_names es)
+
+pub given_walked : (e : Element) → (given e).name ≡ (walk_of e).name
+given_walked e = given_name e ∙ sym (walk_name e)
+
+-- the name of an element that is read in a role
+pub name_is : (e : Element) (r : Role) → (given e).name ≡ word_of r → (out-Element e).name ≡ word_of r
+name_is e r h = sym (given_name e) ∙ h
+
+-- parts that come back, each inside a subterm
+pub parts_back : {A : Type 0} (r : Role) (fit : A → Bool) (tree : A → Element) (inside : Element → Element) (take : Given → A)
+    → ((x : A) → is_passed_over r (given (inside (tree x))).name ≡ false) → ((x : A) → take (given (inside (tree x))) ≡ take (given (tree x)))
+    → (ys : List ((x : A) × (fit x ≡ true → take (given (tree x)) ≡ x))) → are_all (map fit (map (λ y. y.0) ys)) ≡ true
+    → map take (kept r (map given (map inside (map tree (map (λ y. y.0) ys))))) ≡ map (λ y. y.0) ys
+parts_back r fit tree inside take stays same [] h = refl
+parts_back r fit tree inside take stays same (y ∷ ys) h =
+    let parts = and_parts (fit y.0) (are_all (map fit (map (λ y. y.0) ys))) h in
+    let rest = map given (map inside (map tree (map (λ y. y.0) ys))) in
+    ap (map take) (kept_first r (given (inside (tree y.0))) rest (stays y.0))
+    ∙ ap (λ x. x ∷ map take (kept r rest)) (same y.0 ∙ y.1 parts.0)
+    ∙ ap (λ later. y.0 ∷ later) (parts_back r fit tree inside take stays same ys parts.1)

@@ -1,22 +1,22 @@
 -- The guard of the tree of a guard is the guard.
-use Rattle.std.proofs.Common.{◌≡◌, Bool, true, false, ◌||◌, ◌&&◌, List, [], ◌∷◌, map, refl, ap, sym, subst, ◌∙◌}
+use Rattle.std.proofs.Common.{◌≡◌, Bool, true, false, ◌&&◌, List, [], ◌∷◌, map, refl, ap, sym, ◌∙◌}
+use Rattle.std.proofs.lemmas.Bool.{and_parts}
 use Rattle.doc_model.specs.declared.tree.Element.{Element}
 use Rattle.multiset_terms.specs.declared.terms.Order.{Order}
 use Rattle.multiset_terms.specs.declared.terms.Order.TheVariants as order
 use Rattle.multiset_terms.specs.declared.terms.Term.{Term}
 use Rattle.multiset_terms.specs.declared.terms.Guard.{Guard, map-Guard, out-Guard, roll-Guard, fold-roll-Guard, fold_out-Guard}
-use Rattle.multiset_terms.specs.declared.terms.Guard.TheFolds.{ind-Guard}
 use Rattle.multiset_terms.specs.declared.terms.Guard.TheOpen as layer
 use Rattle.multiset_terms.specs.declared.terms.Guard.TheVariants as guard
 use Rattle.net_elements.specs.declared.roles.Role.{Role}
 use Rattle.net_elements.specs.declared.roles.Role.TheVariants as role
 use Rattle.net_elements.specs.Rules.{is_aside, is_passed_over}
 use Rattle.net_elements.specs.Table.{word_of}
-use Rattle.pnml_read.specs.Nets.{Given, child, compare, given, kept}
+use Rattle.pnml_read.specs.Nets.{Given, child, compare, given}
 use Rattle.pnml_write.specs.Canon.{guard_by_parts, guard_part_tree, guard_tree, holder, order_role, part, term_tree}
-use Rattle.canon_laws.specs.Fitting.{are_all, guard_fits, guard_fits_by_parts, term_fits}
-use Rattle.canon_laws.proofs.Elements.{branch_gives, first_child, kept_first, or_false, second_child}
-use Rattle.canon_laws.proofs.Numbers.{both_first, both_second}
+use Rattle.canon_laws.specs.Fitting.{guard_fits, guard_fits_by_parts, term_fits}
+use Rattle.canon_laws.proofs.Layers.{KnownGuard, guard_by_layers, guard_in, plain_guard}
+use Rattle.canon_laws.proofs.Elements.{branch_gives, first_child, or_false, parts_back, second_child}
 use Rattle.canon_laws.proofs.Terms.{first_part, part_is_kept, second_part, term_back}
 
 -- the tree of a guard is no name, graphic or tool's own
@@ -60,29 +60,12 @@ second_guard r f g first h =
 abbrev Back : Guard → Type 0
 Back g = guard_fits g ≡ true → (given (guard_tree g)).guard ≡ g
 
-abbrev Known : Type 0
-Known = (g : Guard) × Back g
-
-abbrev guard_in : Known → Guard
-guard_in e = e.0
-
-parts_back : (r : Role) → is_passed_over r (word_of role.GuardSubterm) ≡ false → (ys : List Known) → are_all (map guard_fits (map guard_in ys)) ≡ true
-    → map (λ c. c.guard) (kept r (map given (map guard_part_tree (map guard_tree (map guard_in ys))))) ≡ map guard_in ys
-parts_back r kept_so [] h = refl
-parts_back r kept_so (y ∷ ys) h =
-    let first = both_first (guard_fits y.0) (are_all (map guard_fits (map guard_in ys))) h in
-    let later = both_second (guard_fits y.0) (are_all (map guard_fits (map guard_in ys))) h in
-    let rest = map given (map guard_part_tree (map guard_tree (map guard_in ys))) in
-    ap (map (λ c. c.guard)) (kept_first r (given (guard_part_tree (guard_tree y.0))) rest (part_kept r (guard_tree y.0) kept_so))
-    ∙ ap (λ t. t ∷ map (λ c. c.guard) (kept r rest)) (part_guard y.0 ∙ y.1 first)
-    ∙ ap (λ later. y.0 ∷ later) (parts_back r kept_so ys later)
-
 compared : (r : Role) (o : Order) (s t : Term) → is_passed_over r (word_of role.TermSubterm) ≡ false → (term_fits s && term_fits t) ≡ true
     → compare r o (given (part (term_tree s)) ∷ given (part (term_tree t)) ∷ []) ≡ guard.Compare o s t
 compared r o s t h fit =
     let gs = given (part (term_tree s)) ∷ given (part (term_tree t)) ∷ [] in
-    ap (λ s. guard.Compare o s (child r 1 gs).term) (first_part r s (given (part (term_tree t)) ∷ []) h ∙ term_back s (both_first (term_fits s) (term_fits t) fit))
-    ∙ ap (guard.Compare o s) (second_part r (given (part (term_tree s))) t (part_is_kept r (term_tree s) h) h ∙ term_back t (both_second (term_fits s) (term_fits t) fit))
+    ap (λ s. guard.Compare o s (child r 1 gs).term) (first_part r s (given (part (term_tree t)) ∷ []) h ∙ term_back s (and_parts (term_fits s) (term_fits t) fit).0)
+    ∙ ap (guard.Compare o s) (second_part r (given (part (term_tree s))) t (part_is_kept r (term_tree s) h) h ∙ term_back t (and_parts (term_fits s) (term_fits t) fit).1)
 
 compare_back : (o : Order) (s t : Term) → (term_fits s && term_fits t) ≡ true
     → (given (holder (order_role o) (part (term_tree s) ∷ part (term_tree t) ∷ []))).guard ≡ guard.Compare o s t
@@ -97,29 +80,24 @@ constant_back : (b : Bool) → (given (guard_by_parts (layer.Constant b))).guard
 constant_back true = ap (λ g. g.guard) (branch_gives role.BooleanConstant _ [])
 constant_back false = ap (λ g. g.guard) (branch_gives role.BooleanConstant _ [])
 
-abbrev plain : layer.Guard-F Known → layer.Guard-F Guard
-plain y = map-Guard Known Guard guard_in y
-
-layer_back : (y : layer.Guard-F Known) → guard_fits_by_parts (map-Guard Guard Bool guard_fits (plain y)) ≡ true
-    → (given (guard_by_parts (map-Guard Guard Element guard_tree (plain y)))).guard ≡ roll-Guard (plain y)
+layer_back : (y : layer.Guard-F (KnownGuard Back)) → guard_fits_by_parts (map-Guard Guard Bool guard_fits (plain_guard Back y)) ≡ true
+    → (given (guard_by_parts (map-Guard Guard Element guard_tree (plain_guard Back y)))).guard ≡ roll-Guard (plain_guard Back y)
 layer_back (layer.Constant b) h = constant_back b ∙ sym (guard.rolls-Constant b)
 layer_back (layer.And ys) h =
-    ap (λ g. g.guard) (branch_gives role.And _ _) ∙ ap guard.And (parts_back role.And refl ys h) ∙ sym (guard.rolls-And (map guard_in ys))
+    ap (λ g. g.guard) (branch_gives role.And _ _) ∙ ap guard.And (parts_back role.And guard_fits guard_tree guard_part_tree (λ g. g.guard) (λ g. part_kept role.And (guard_tree g) refl) part_guard ys h) ∙ sym (guard.rolls-And (map (guard_in Back) ys))
 layer_back (layer.Or ys) h =
-    ap (λ g. g.guard) (branch_gives role.Or _ _) ∙ ap guard.Or (parts_back role.Or refl ys h) ∙ sym (guard.rolls-Or (map guard_in ys))
+    ap (λ g. g.guard) (branch_gives role.Or _ _) ∙ ap guard.Or (parts_back role.Or guard_fits guard_tree guard_part_tree (λ g. g.guard) (λ g. part_kept role.Or (guard_tree g) refl) part_guard ys h) ∙ sym (guard.rolls-Or (map (guard_in Back) ys))
 layer_back (layer.Not c) h =
     ap (λ g. g.guard) (branch_gives role.Not _ _) ∙ ap guard.Not (first_guard role.Not c.0 [] refl ∙ c.1 h) ∙ sym (guard.rolls-Not c.0)
 layer_back (layer.Imply c d) h =
     let gs = given (guard_part_tree (guard_tree c.0)) ∷ given (guard_part_tree (guard_tree d.0)) ∷ [] in
     ap (λ g. g.guard) (branch_gives role.Imply _ _)
-    ∙ ap (λ g. guard.Imply g (child role.Imply 1 gs).guard) (first_guard role.Imply c.0 (given (guard_part_tree (guard_tree d.0)) ∷ []) refl ∙ c.1 (both_first (guard_fits c.0) (guard_fits d.0) h))
-    ∙ ap (guard.Imply c.0) (second_guard role.Imply (given (guard_part_tree (guard_tree c.0))) d.0 (part_kept role.Imply (guard_tree c.0) refl) refl ∙ d.1 (both_second (guard_fits c.0) (guard_fits d.0) h))
+    ∙ ap (λ g. guard.Imply g (child role.Imply 1 gs).guard) (first_guard role.Imply c.0 (given (guard_part_tree (guard_tree d.0)) ∷ []) refl ∙ c.1 (and_parts (guard_fits c.0) (guard_fits d.0) h).0)
+    ∙ ap (guard.Imply c.0) (second_guard role.Imply (given (guard_part_tree (guard_tree c.0))) d.0 (part_kept role.Imply (guard_tree c.0) refl) refl ∙ d.1 (and_parts (guard_fits c.0) (guard_fits d.0) h).1)
     ∙ sym (guard.rolls-Imply c.0 d.0)
 layer_back (layer.Compare o s t) h = compare_back o s t h ∙ sym (guard.rolls-Compare o s t)
 
 pub guard_back : (g : Guard) → guard_fits g ≡ true → (given (guard_tree g)).guard ≡ g
-guard_back = ind-Guard Back (λ x y is.
-    subst (λ z. Back (roll-Guard z)) is
-    (λ h.
-    ap (λ e. (given e).guard) (fold-roll-Guard Element guard_by_parts (plain y))
-    ∙ layer_back y (sym (fold-roll-Guard Bool guard_fits_by_parts (plain y)) ∙ h)))
+guard_back = guard_by_layers Back (λ y h.
+    ap (λ e. (given e).guard) (fold-roll-Guard Element guard_by_parts (plain_guard Back y))
+    ∙ layer_back y (sym (fold-roll-Guard Bool guard_fits_by_parts (plain_guard Back y)) ∙ h))

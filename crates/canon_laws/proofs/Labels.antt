@@ -1,11 +1,10 @@
 -- Labels, and what they say.
-use Rattle.std.proofs.Common.{◌≡◌, ℕ, ◌==◌, ◌<◌, ◌^◌, Bool, true, false, List, [], ◌∷◌, ◌++◌, map, Option, None, Some, refl, ap, sym, ◌∙◌, if◌then◌else◌, arith}
+use Rattle.std.proofs.Common.{◌≡◌, ℕ, ◌==◌, Bool, true, false, List, [], ◌∷◌, ◌++◌, map, Option, None, Some, refl, ap, sym, ◌∙◌, if◌then◌else◌, arith}
 use Rattle.std.proofs.lemmas.Bool.Decides.{nat_tests}
 use Rattle.std.specs.Fmt.{decimal}
 use Rattle.doc_model.specs.declared.tree.Element.{Element}
 use Rattle.doc_model.specs.Trees.{element}
 use Rattle.colour_sorts.specs.declared.written.SortTerm.{SortTerm}
-use Rattle.colour_sorts.specs.declared.written.SortTerm.TheVariants as sort
 use Rattle.multiset_terms.specs.declared.terms.Term.{Term}
 use Rattle.multiset_terms.specs.declared.terms.Guard.{Guard}
 use Rattle.net_elements.specs.declared.kinds.Kind.{Kind}
@@ -18,12 +17,12 @@ use Rattle.net_model.specs.declared.nets.Label.{Label}
 use Rattle.net_model.specs.declared.nets.Label.TheVariants as label
 use Rattle.pnml_read.specs.Nets.{Given, given, guard_or_none, inscription_of, marking_of, named, number_or, sort_or_dot}
 use Rattle.pnml_write.specs.Canon.{condition_trees, guard_tree, holder, label_trees, sort_tree, term_label, term_tree, text_label, type_trees, unless_usual}
-use Rattle.canon_laws.specs.Fitting.{GuardFits, LabelFits, SortFits, guard_fits, sort_fits, term_fits}
+use Rattle.canon_laws.specs.Fitting.{GuardFits, LabelFits, SortFits, sort_fits, term_fits}
 use Rattle.canon_laws.proofs.Elements.{branch_given, branch_gives, element_gives, first_child, gives, or_false}
 use Rattle.canon_laws.proofs.Guards.{guard_aside, guard_back}
 use Rattle.canon_laws.proofs.Sorts.{sort_aside, sort_back}
 use Rattle.canon_laws.proofs.Terms.{term_aside, term_back}
-use Rattle.canon_laws.proofs.Texts.{text_back}
+use Rattle.canon_laws.proofs.Texts.{trimmed_back}
 
 -- a label that holds a structure
 structure_gives : (outer inner : Role) (tree : Element) → given (holder outer (holder inner (tree ∷ []) ∷ [])) ≡ branch_given outer [] (branch_given inner [] (given tree ∷ []) ∷ [])
@@ -62,7 +61,7 @@ either f usual r n a absent written = by (n == usual) (λ h. absent (grind (arit
 
 pub marking_back : (kind : Kind) (s : SortTerm) (m : Label) → LabelFits kind m → marking_of kind (map given (type_trees kind s ++ label_trees 0 role.InitialMarking role.HlInitialMarking m)) ≡ m
 marking_back Pt s (label.Count n) small =
-    ap label.Count (either (λ gs. number_or 0 (named role.InitialMarking gs)) 0 role.InitialMarking n n (λ is. sym is) (text_back n small))
+    ap label.Count (either (λ gs. number_or 0 (named role.InitialMarking gs)) 0 role.InitialMarking n n (λ is. sym is) (trimmed_back n small))
 marking_back Pt s label.Absent never = absurd never
 marking_back Pt s (label.Multiset t) never = absurd never
 marking_back Symmetric s label.Absent fit = ap (λ g. marking_of Symmetric (g ∷ [])) (structure_gives role.PlaceType role.SortStructure (sort_tree s))
@@ -83,7 +82,7 @@ place_sort_back Symmetric s m is fit =
 
 pub inscription_back : (kind : Kind) (m : Label) → LabelFits kind m → inscription_of kind (map given (label_trees 1 role.Inscription role.HlInscription m)) ≡ m
 inscription_back Pt (label.Count n) small =
-    ap label.Count (either (λ gs. number_or 1 (named role.Inscription gs)) 1 role.Inscription n n (λ is. sym is) (text_back n small))
+    ap label.Count (either (λ gs. number_or 1 (named role.Inscription gs)) 1 role.Inscription n n (λ is. sym is) (trimmed_back n small))
 inscription_back Pt label.Absent never = absurd never
 inscription_back Pt (label.Multiset t) never = absurd never
 inscription_back Symmetric label.Absent fit = refl

@@ -1,12 +1,11 @@
 -- What the trees of nodes and declarations have, in lists.
-use Rattle.std.proofs.Common.{◌≡◌, Bool, true, false, not, cond, List, [], ◌∷◌, ◌++◌, map, append_assoc, refl, ap, sym, ◌∙◌}
+use Rattle.std.proofs.Common.{◌≡◌, false, List, [], ◌∷◌, ◌++◌, map, ap, ◌∙◌}
 use Rattle.std.proofs.lemmas.List.{append-nil}
-use Rattle.doc_model.specs.declared.tree.Element.{Element}
 use Rattle.net_elements.specs.declared.kinds.Kind.{Kind}
 use Rattle.net_elements.specs.declared.roles.Role.{Role}
 use Rattle.net_elements.specs.Rules.{is_passed_over}
 use Rattle.pnml_read.specs.declared.lists.Lists.{Lists}
-use Rattle.pnml_read.specs.Nets.{Given, both, given, joined, kept, lists_in, no_lists}
+use Rattle.pnml_read.specs.Nets.{Given, both, joined, lists_in, no_lists}
 use Rattle.canon_laws.proofs.Elements.{kept_first}
 
 pub both_none : (a : Lists) → both a no_lists ≡ a
@@ -23,5 +22,5 @@ both_none a =
 pub first_lists : (r : Role) (kind : Kind) (g : Given) (gs : List Given) → is_passed_over r g.name ≡ false → lists_in r kind (g ∷ gs) ≡ both (g.lists kind) (lists_in r kind gs)
 first_lists r kind g gs h = ap (λ ks. joined (map (λ c. c.lists kind) ks)) (kept_first r g gs h)
 
-pub one_child : (r : Role) (kind : Kind) (g : Given) → is_passed_over r g.name ≡ false → lists_in r kind (g ∷ []) ≡ g.lists kind
-one_child r kind g h = first_lists r kind g [] h ∙ both_none (g.lists kind)
+pub only_lists : (r : Role) (kind : Kind) (g : Given) → is_passed_over r g.name ≡ false → lists_in r kind (g ∷ []) ≡ g.lists kind
+only_lists r kind g h = first_lists r kind g [] h ∙ both_none (g.lists kind)

@@ -1,5 +1,5 @@
 -- Nodes come back, and with what is declared the net.
-use Rattle.std.proofs.Common.{◌≡◌, ℕ, Bool, true, false, cond, List, [], ◌∷◌, ◌++◌, map, Option, None, Some, codes, append_assoc, refl, ap, sym, ◌∙◌}
+use Rattle.std.proofs.Common.{◌≡◌, ℕ, false, cond, List, [], ◌∷◌, ◌++◌, map, None, Some, codes, append_assoc, refl, ap, ◌∙◌}
 use Rattle.std.proofs.lemmas.List.{append-nil}
 use Rattle.std.specs.List.{find}
 use Rattle.std.specs.Str.{bytes_eq}
@@ -25,7 +25,7 @@ use Rattle.canon_laws.specs.Fitting.{Each, GuardFits, LabelFits, NetFits, SortFi
 use Rattle.canon_laws.proofs.Elements.{branch_gives}
 use Rattle.canon_laws.proofs.Declared.{partitions_in, sorts_in, variables_in}
 use Rattle.canon_laws.proofs.Labels.{condition_back, inscription_back, marking_back, place_sort_back}
-use Rattle.canon_laws.proofs.Lists.{both_none, first_lists, one_child}
+use Rattle.canon_laws.proofs.Lists.{first_lists, only_lists}
 
 place_back : (kind : Kind) (p : Place) → SortFits kind p.sort → LabelFits kind p.marking → (given (place_tree kind p)).lists kind ≡ record no_lists { places = p ∷ [] }
 place_back kind p sort_fit label_fit =
@@ -134,9 +134,9 @@ declaration_gives kind trees =
     let list = holder role.Declarations trees in
     let structure = holder role.DeclarationStructure (list ∷ []) in
     ap (λ g. g.lists kind) (branch_gives role.Declaration [] (structure ∷ []))
-    ∙ one_child role.Declaration kind (given structure) (ap (λ g. is_passed_over role.Declaration g.name) (branch_gives role.DeclarationStructure [] (list ∷ [])))
+    ∙ only_lists role.Declaration kind (given structure) (ap (λ g. is_passed_over role.Declaration g.name) (branch_gives role.DeclarationStructure [] (list ∷ [])))
     ∙ ap (λ g. g.lists kind) (branch_gives role.DeclarationStructure [] (list ∷ []))
-    ∙ one_child role.DeclarationStructure kind (given list) (ap (λ g. is_passed_over role.DeclarationStructure g.name) (branch_gives role.Declarations [] trees))
+    ∙ only_lists role.DeclarationStructure kind (given list) (ap (λ g. is_passed_over role.DeclarationStructure g.name) (branch_gives role.Declarations [] trees))
     ∙ ap (λ g. g.lists kind) (branch_gives role.Declarations [] trees)
 
 page_is_kept : (net : Net) → is_passed_over role.Net (given (page_tree net)).name ≡ false
@@ -144,12 +144,12 @@ page_is_kept net = ap (λ g. is_passed_over role.Net g.name) (branch_gives role.
 
 within : (net : Net) (trees : List Element)
     → lists_in role.Net net.kind (map given (declaration_trees trees ++ page_tree net ∷ [])) ≡ both (lists_in role.Declarations net.kind (map given trees)) ((given (page_tree net)).lists net.kind)
-within net [] = one_child role.Net net.kind (given (page_tree net)) (page_is_kept net)
+within net [] = only_lists role.Net net.kind (given (page_tree net)) (page_is_kept net)
 within net (tree ∷ trees) =
     let label = declaration (tree ∷ trees) in
     first_lists role.Net net.kind (given label) (given (page_tree net) ∷ []) (ap (λ g. is_passed_over role.Net g.name) (branch_gives role.Declaration [] _))
     ∙ ap (λ l. both l (lists_in role.Net net.kind (given (page_tree net) ∷ []))) (declaration_gives net.kind (tree ∷ trees))
-    ∙ ap (both (lists_in role.Declarations net.kind (map given (tree ∷ trees)))) (one_child role.Net net.kind (given (page_tree net)) (page_is_kept net))
+    ∙ ap (both (lists_in role.Declarations net.kind (map given (tree ∷ trees)))) (only_lists role.Net net.kind (given (page_tree net)) (page_is_kept net))
 
 lists_back : (net : Net) → NetFits net → (given (net_tree net)).lists net.kind ≡ both (declarations_of net) (nodes_of net)
 lists_back net fit =
@@ -164,7 +164,7 @@ whole net =
     ∙ ap (λ l. record { id = net.id; kind = net.kind; sorts = net.sorts; partitions = l; variables = net.variables ++ []; places = net.places; transitions = net.transitions; references = net.references; arcs = net.arcs }) (append-nil net.partitions)
     ∙ ap (λ l. record { id = net.id; kind = net.kind; sorts = net.sorts; partitions = net.partitions; variables = l; places = net.places; transitions = net.transitions; references = net.references; arcs = net.arcs }) (append-nil net.variables)
 
-kind_back : (kind : Kind) → kind_from Pt (Some (kind_text kind)) ≡ kind
+pub kind_back : (kind : Kind) → kind_from Pt (Some (kind_text kind)) ≡ kind
 kind_back Pt = refl
 kind_back Symmetric = refl
 

@@ -1,9 +1,9 @@
 -- The sort of the tree of a sort is the sort.
-use Rattle.std.proofs.Common.{◌≡◌, ℕ, Bool, true, false, not, ◌||◌, List, [], ◌∷◌, map, refl, ap, sym, subst, ◌∙◌}
+use Rattle.std.proofs.Common.{◌≡◌, ℕ, Bool, true, false, List, [], ◌∷◌, map, refl, ap, sym, ◌∙◌}
+use Rattle.std.proofs.lemmas.Bool.{and_parts}
 use Rattle.std.specs.Str.{bytes_eq}
 use Rattle.doc_model.specs.declared.tree.Element.{Element}
 use Rattle.colour_sorts.specs.declared.written.SortTerm.{SortTerm, map-SortTerm, out-SortTerm, roll-SortTerm, fold-roll-SortTerm, fold_out-SortTerm}
-use Rattle.colour_sorts.specs.declared.written.SortTerm.TheFolds.{ind-SortTerm}
 use Rattle.colour_sorts.specs.declared.written.SortTerm.TheOpen as layer
 use Rattle.colour_sorts.specs.declared.written.SortTerm.TheVariants as sort
 use Rattle.net_elements.specs.declared.roles.Role.{Role}
@@ -11,10 +11,11 @@ use Rattle.net_elements.specs.declared.roles.Role.TheVariants as role
 use Rattle.net_elements.specs.Rules.{is_aside, is_passed_over}
 use Rattle.net_elements.specs.Table.{word_of}
 use Rattle.pnml_read.specs.Nets.{given, kept}
-use Rattle.pnml_write.specs.Canon.{constant_tree, declared_id, range_tree, sort_by_parts, sort_tree}
+use Rattle.pnml_write.specs.Canon.{constant_tree, declared_id, sort_by_parts, sort_tree}
 use Rattle.canon_laws.specs.Fitting.{are_all, sort_fits, sort_fits_by_parts}
+use Rattle.canon_laws.proofs.Layers.{KnownSort, plain_sort, sort_by_layers, sort_in}
 use Rattle.canon_laws.proofs.Elements.{branch_gives, kept_first, or_false}
-use Rattle.canon_laws.proofs.Numbers.{both_first, both_second, span_back}
+use Rattle.canon_laws.proofs.Numbers.{span_back}
 
 -- the tree of a sort is no name, graphic or tool's own, and no block of a partition
 sort_layer_aside : (y : layer.SortTerm-F Element) → is_aside (given (sort_by_parts y)).name ≡ false
@@ -55,32 +56,23 @@ constants_back r h (id ∷ ids) =
 abbrev Back : SortTerm → Type 0
 Back s = sort_fits s ≡ true → (given (sort_tree s)).sort ≡ s
 
-abbrev Known : Type 0
-Known = (s : SortTerm) × Back s
-
-abbrev sort_in : Known → SortTerm
-sort_in e = e.0
-
-parts_back : (ys : List Known) → are_all (map sort_fits (map sort_in ys)) ≡ true
-    → map (λ c. c.sort) (kept role.ProductSort (map given (map sort_tree (map sort_in ys)))) ≡ map sort_in ys
+parts_back : (ys : List (KnownSort Back)) → are_all (map sort_fits (map (sort_in Back) ys)) ≡ true
+    → map (λ c. c.sort) (kept role.ProductSort (map given (map sort_tree (map (sort_in Back) ys)))) ≡ map (sort_in Back) ys
 parts_back [] h = refl
 parts_back (y ∷ ys) h =
-    let first = both_first (sort_fits y.0) (are_all (map sort_fits (map sort_in ys))) h in
-    let later = both_second (sort_fits y.0) (are_all (map sort_fits (map sort_in ys))) h in
-    let rest = map given (map sort_tree (map sort_in ys)) in
+    let first = (and_parts (sort_fits y.0) (are_all (map sort_fits (map (sort_in Back) ys))) h).0 in
+    let later = (and_parts (sort_fits y.0) (are_all (map sort_fits (map (sort_in Back) ys))) h).1 in
+    let rest = map given (map sort_tree (map (sort_in Back) ys)) in
     ap (map (λ c. c.sort)) (kept_first role.ProductSort (given (sort_tree y.0)) rest (or_false (is_aside (given (sort_tree y.0)).name) (sort_aside y.0)))
     ∙ ap (λ s. s ∷ map (λ c. c.sort) (kept role.ProductSort rest)) (y.1 first)
     ∙ ap (λ later. y.0 ∷ later) (parts_back ys later)
 
-abbrev plain : layer.SortTerm-F Known → layer.SortTerm-F SortTerm
-plain y = map-SortTerm Known SortTerm sort_in y
-
-layer_back : (y : layer.SortTerm-F Known) → sort_fits_by_parts (map-SortTerm SortTerm Bool sort_fits (plain y)) ≡ true
-    → (given (sort_by_parts (map-SortTerm SortTerm Element sort_tree (plain y)))).sort ≡ roll-SortTerm (plain y)
+layer_back : (y : layer.SortTerm-F (KnownSort Back)) → sort_fits_by_parts (map-SortTerm SortTerm Bool sort_fits (plain_sort Back y)) ≡ true
+    → (given (sort_by_parts (map-SortTerm SortTerm Element sort_tree (plain_sort Back y)))).sort ≡ roll-SortTerm (plain_sort Back y)
 layer_back layer.Dot h = ap (λ g. g.sort) (branch_gives role.Dot _ _) ∙ sym sort.rolls-Dot
 layer_back (layer.Named id) h = ap (λ g. g.sort) (branch_gives role.UserSort _ _) ∙ sym (sort.rolls-Named id)
 layer_back (layer.Product ys) h =
-    ap (λ g. g.sort) (branch_gives role.ProductSort _ _) ∙ ap sort.Product (parts_back ys h) ∙ sym (sort.rolls-Product (map sort_in ys))
+    ap (λ g. g.sort) (branch_gives role.ProductSort _ _) ∙ ap sort.Product (parts_back ys h) ∙ sym (sort.rolls-Product (map (sort_in Back) ys))
 layer_back (layer.Range span) h = ap (λ g. g.sort) (branch_gives role.FiniteIntRange _ _) ∙ ap sort.Range (span_back span h) ∙ sym (sort.rolls-Range span)
 layer_back (layer.Listed ids) h =
     ap (λ g. g.sort) (branch_gives role.FiniteEnumeration _ _) ∙ ap sort.Listed (constants_back role.FiniteEnumeration refl ids) ∙ sym (sort.rolls-Listed ids)
@@ -88,8 +80,6 @@ layer_back (layer.Cyclic ids) h =
     ap (λ g. g.sort) (branch_gives role.CyclicEnumeration _ _) ∙ ap sort.Cyclic (constants_back role.CyclicEnumeration refl ids) ∙ sym (sort.rolls-Cyclic ids)
 
 pub sort_back : (s : SortTerm) → sort_fits s ≡ true → (given (sort_tree s)).sort ≡ s
-sort_back = ind-SortTerm Back (λ x y is.
-    subst (λ z. Back (roll-SortTerm z)) is
-    (λ h.
-    ap (λ e. (given e).sort) (fold-roll-SortTerm Element sort_by_parts (plain y))
-    ∙ layer_back y (sym (fold-roll-SortTerm Bool sort_fits_by_parts (plain y)) ∙ h)))
+sort_back = sort_by_layers Back (λ y h.
+    ap (λ e. (given e).sort) (fold-roll-SortTerm Element sort_by_parts (plain_sort Back y))
+    ∙ layer_back y (sym (fold-roll-SortTerm Bool sort_fits_by_parts (plain_sort Back y)) ∙ h))

@@ -1,5 +1,5 @@
 -- Offsets play no part in the net of a tree; so what is spelled by a canonical text gives the net.
-use Rattle.std.proofs.Common.{◌≡◌, ℕ, Bool, true, false, cond, List, [], ◌∷◌, map, Option, Some, codes, refl, ap, sym, subst, ◌∙◌}
+use Rattle.std.proofs.Common.{◌≡◌, ℕ, Bool, true, false, cond, List, ◌∷◌, map, Option, Some, codes, refl, ap, sym, subst, ◌∙◌}
 use Rattle.std.specs.List.{find}
 use Rattle.std.specs.Str.{bytes_eq}
 use Rattle.doc_model.specs.declared.tree.Attribute.{Attribute}
@@ -64,7 +64,7 @@ same_found (Writable.AreSameTrees.more {k} {j} {ks} {js} first later) =
     by true o p one rest = one
     by false o p one rest = rest
 
-same_net_of : {t u : Element} → IsSameTree t u → net_of t ≡ net_of u
+pub same_net_of : {t u : Element} → IsSameTree t u → net_of t ≡ net_of u
 same_net_of (Writable.IsSameTree.same at bt n text ats {ks} {js} children) =
     ap (λ r. net_in (find (λ e. bytes_eq (out-Element e).name (codes "net")) r.children)) (at_parts at n text ats ks)
     ∙ same_found children

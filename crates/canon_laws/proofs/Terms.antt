@@ -1,22 +1,21 @@
 -- The term of the tree of a term is the term.
-use Rattle.std.proofs.Common.{◌≡◌, ℕ, ◌<◌, ◌^◌, ℤ, Bool, true, false, ◌||◌, nat_lt, List, [], ◌∷◌, map, refl, ap, sym, subst, ◌∙◌}
-use Rattle.std.proofs.lemmas.Bool.{ltb-true}
-use Rattle.std.specs.Fmt.{decimal, signed_decimal}
+use Rattle.std.proofs.Common.{◌≡◌, ℕ, ◌<◌, ◌^◌, Bool, true, false, nat_lt, List, [], ◌∷◌, map, refl, ap, sym, ◌∙◌}
+use Rattle.std.proofs.lemmas.Bool.{and_parts, ltb-true}
 use Rattle.doc_model.specs.declared.tree.Element.{Element}
 use Rattle.colour_sorts.specs.declared.written.Span.{Span}
 use Rattle.multiset_terms.specs.declared.terms.Term.{Term, map-Term, out-Term, roll-Term, fold-roll-Term, fold_out-Term}
-use Rattle.multiset_terms.specs.declared.terms.Term.TheFolds.{ind-Term}
 use Rattle.multiset_terms.specs.declared.terms.Term.TheOpen as layer
 use Rattle.multiset_terms.specs.declared.terms.Term.TheVariants as term
 use Rattle.net_elements.specs.declared.roles.Role.{Role}
 use Rattle.net_elements.specs.declared.roles.Role.TheVariants as role
 use Rattle.net_elements.specs.Rules.{is_aside, is_passed_over}
 use Rattle.net_elements.specs.Table.{word_of}
-use Rattle.pnml_read.specs.Nets.{Given, child, given, kept, signed}
-use Rattle.pnml_write.specs.Canon.{number_tree, part, range_constant_tree, range_tree, sort_tree, term_by_parts, term_tree}
-use Rattle.canon_laws.specs.Fitting.{are_all, fits, span_fits, sort_fits, term_fits, term_fits_by_parts}
-use Rattle.canon_laws.proofs.Elements.{branch_gives, first_child, kept_first, or_false, second_child}
-use Rattle.canon_laws.proofs.Numbers.{both_first, both_second, signed_back, span_back, unsigned_back}
+use Rattle.pnml_read.specs.Nets.{Given, child, given}
+use Rattle.pnml_write.specs.Canon.{number_tree, part, range_tree, sort_tree, term_by_parts, term_tree}
+use Rattle.canon_laws.specs.Fitting.{fits, span_fits, term_fits, term_fits_by_parts}
+use Rattle.canon_laws.proofs.Layers.{KnownTerm, plain_term, term_by_layers, term_in}
+use Rattle.canon_laws.proofs.Elements.{branch_gives, first_child, or_false, parts_back, second_child}
+use Rattle.canon_laws.proofs.Numbers.{signed_back, span_back, unsigned_back}
 use Rattle.canon_laws.proofs.Sorts.{sort_aside, sort_back}
 
 -- the tree of a term is no name, graphic or tool's own
@@ -73,37 +72,17 @@ range_in span h =
 number_is_kept : (r : Role) (n : ℕ) → is_passed_over r (word_of role.NumberSubterm) ≡ false → is_passed_over r (given (number_tree n)).name ≡ false
 number_is_kept r n h = ap (λ g. is_passed_over r g.name) (branch_gives role.NumberSubterm [] _) ∙ h
 
-number_gives : (n : ℕ) → n < 2 ^ 63 → (given (number_tree n)).number ≡ n
-number_gives n small =
+number_back : (n : ℕ) → n < 2 ^ 63 → (given (number_tree n)).number ≡ n
+number_back n small =
     ap (λ g. g.number) (branch_gives role.NumberSubterm [] _)
     ∙ ap (λ g. (child role.NumberSubterm 0 (g ∷ [])).number) (branch_gives role.NumberConstant _ _)
     ∙ unsigned_back n small
 
 first_number : (r : Role) (n : ℕ) (gs : List Given) → n < 2 ^ 63 → is_passed_over r (word_of role.NumberSubterm) ≡ false → (child r 0 (given (number_tree n) ∷ gs)).number ≡ n
-first_number r n gs small h = ap (λ g. g.number) (first_child r (given (number_tree n)) gs (number_is_kept r n h)) ∙ number_gives n small
+first_number r n gs small h = ap (λ g. g.number) (first_child r (given (number_tree n)) gs (number_is_kept r n h)) ∙ number_back n small
 
 abbrev Back : Term → Type 0
 Back t = term_fits t ≡ true → (given (term_tree t)).term ≡ t
-
-abbrev Known : Type 0
-Known = (t : Term) × Back t
-
-abbrev term_in : Known → Term
-term_in e = e.0
-
-parts_back : (r : Role) → is_passed_over r (word_of role.TermSubterm) ≡ false → (ys : List Known) → are_all (map term_fits (map term_in ys)) ≡ true
-    → map (λ c. c.term) (kept r (map given (map part (map term_tree (map term_in ys))))) ≡ map term_in ys
-parts_back r kept_so [] h = refl
-parts_back r kept_so (y ∷ ys) h =
-    let first = both_first (term_fits y.0) (are_all (map term_fits (map term_in ys))) h in
-    let later = both_second (term_fits y.0) (are_all (map term_fits (map term_in ys))) h in
-    let rest = map given (map part (map term_tree (map term_in ys))) in
-    ap (map (λ c. c.term)) (kept_first r (given (part (term_tree y.0))) rest (part_is_kept r (term_tree y.0) kept_so))
-    ∙ ap (λ t. t ∷ map (λ c. c.term) (kept r rest)) (part_term y.0 ∙ y.1 first)
-    ∙ ap (λ later. y.0 ∷ later) (parts_back r kept_so ys later)
-
-abbrev plain : layer.Term-F Known → layer.Term-F Term
-plain y = map-Term Known Term term_in y
 
 multiple_back : (r : Role) (make : ℕ → Term → Term) (n : ℕ) (t : Term) → is_passed_over r (word_of role.TermSubterm) ≡ false → n < 2 ^ 63 → (given (term_tree t)).term ≡ t
     → make (child r 0 (given (number_tree n) ∷ given (part (term_tree t)) ∷ [])).number (child r 1 (given (number_tree n) ∷ given (part (term_tree t)) ∷ [])).term ≡ make n t
@@ -111,22 +90,22 @@ multiple_back r make n t h small back =
     ap (λ m. make m (child r 1 (given (number_tree n) ∷ given (part (term_tree t)) ∷ [])).term) (first_number r n (given (part (term_tree t)) ∷ []) small h)
     ∙ ap (make n) (second_part r (given (number_tree n)) t (number_is_kept r n h) h ∙ back)
 
-layer_back : (y : layer.Term-F Known) → term_fits_by_parts (map-Term Term Bool term_fits (plain y)) ≡ true
-    → (given (term_by_parts (map-Term Term Element term_tree (plain y)))).term ≡ roll-Term (plain y)
+layer_back : (y : layer.Term-F (KnownTerm Back)) → term_fits_by_parts (map-Term Term Bool term_fits (plain_term Back y)) ≡ true
+    → (given (term_by_parts (map-Term Term Element term_tree (plain_term Back y)))).term ≡ roll-Term (plain_term Back y)
 layer_back (layer.Variable id) h = ap (λ g. g.term) (branch_gives role.Variable _ _) ∙ sym (term.rolls-Variable id)
 layer_back (layer.Operator id) h = ap (λ g. g.term) (branch_gives role.UserOperator _ _) ∙ sym (term.rolls-Operator id)
 layer_back layer.Dot h = ap (λ g. g.term) (branch_gives role.DotConstant _ _) ∙ sym term.rolls-Dot
 layer_back (layer.Number value span) h =
     ap (λ g. g.term) (branch_gives role.FiniteIntRangeConstant _ _)
-    ∙ ap (λ v. term.Number v (child role.FiniteIntRangeConstant 0 (given (range_tree span) ∷ [])).span) (signed_back value (both_first (fits value) (span_fits span) h))
-    ∙ ap (term.Number value) (range_in span (both_second (fits value) (span_fits span) h))
+    ∙ ap (λ v. term.Number v (child role.FiniteIntRangeConstant 0 (given (range_tree span) ∷ [])).span) (signed_back value (and_parts (fits value) (span_fits span) h).0)
+    ∙ ap (term.Number value) (range_in span (and_parts (fits value) (span_fits span) h).1)
     ∙ sym (term.rolls-Number value span)
 layer_back (layer.Successor c) h =
     ap (λ g. g.term) (branch_gives role.Successor _ _) ∙ ap term.Successor (first_part role.Successor c.0 [] refl ∙ c.1 h) ∙ sym (term.rolls-Successor c.0)
 layer_back (layer.Predecessor c) h =
     ap (λ g. g.term) (branch_gives role.Predecessor _ _) ∙ ap term.Predecessor (first_part role.Predecessor c.0 [] refl ∙ c.1 h) ∙ sym (term.rolls-Predecessor c.0)
 layer_back (layer.Tuple ys) h =
-    ap (λ g. g.term) (branch_gives role.Tuple _ _) ∙ ap term.Tuple (parts_back role.Tuple refl ys h) ∙ sym (term.rolls-Tuple (map term_in ys))
+    ap (λ g. g.term) (branch_gives role.Tuple _ _) ∙ ap term.Tuple (parts_back role.Tuple term_fits term_tree part (λ g. g.term) (λ t. part_is_kept role.Tuple (term_tree t) refl) part_term ys h) ∙ sym (term.rolls-Tuple (map (term_in Back) ys))
 layer_back (layer.All s) h =
     ap (λ g. g.term) (branch_gives role.All _ _)
     ∙ ap (λ g. term.All g.sort) (first_child role.All (given (sort_tree s)) [] (or_false (is_aside (given (sort_tree s)).name) (sort_aside s)))
@@ -137,27 +116,25 @@ layer_back (layer.Empty s) h =
     ∙ ap term.Empty (sort_back s h) ∙ sym (term.rolls-Empty s)
 layer_back (layer.NumberOf n c) h =
     ap (λ g. g.term) (branch_gives role.NumberOf _ _)
-    ∙ multiple_back role.NumberOf term.NumberOf n c.0 refl (ltb-true n (2 ^ 63) (both_first (nat_lt n (2 ^ 63)) (term_fits c.0) h)) (c.1 (both_second (nat_lt n (2 ^ 63)) (term_fits c.0) h))
+    ∙ multiple_back role.NumberOf term.NumberOf n c.0 refl (ltb-true n (2 ^ 63) (and_parts (nat_lt n (2 ^ 63)) (term_fits c.0) h).0) (c.1 (and_parts (nat_lt n (2 ^ 63)) (term_fits c.0) h).1)
     ∙ sym (term.rolls-NumberOf n c.0)
 layer_back (layer.Scalar n c) h =
     ap (λ g. g.term) (branch_gives role.ScalarProduct _ _)
-    ∙ multiple_back role.ScalarProduct term.Scalar n c.0 refl (ltb-true n (2 ^ 63) (both_first (nat_lt n (2 ^ 63)) (term_fits c.0) h)) (c.1 (both_second (nat_lt n (2 ^ 63)) (term_fits c.0) h))
+    ∙ multiple_back role.ScalarProduct term.Scalar n c.0 refl (ltb-true n (2 ^ 63) (and_parts (nat_lt n (2 ^ 63)) (term_fits c.0) h).0) (c.1 (and_parts (nat_lt n (2 ^ 63)) (term_fits c.0) h).1)
     ∙ sym (term.rolls-Scalar n c.0)
 layer_back (layer.Add ys) h =
-    ap (λ g. g.term) (branch_gives role.Add _ _) ∙ ap term.Add (parts_back role.Add refl ys h) ∙ sym (term.rolls-Add (map term_in ys))
+    ap (λ g. g.term) (branch_gives role.Add _ _) ∙ ap term.Add (parts_back role.Add term_fits term_tree part (λ g. g.term) (λ t. part_is_kept role.Add (term_tree t) refl) part_term ys h) ∙ sym (term.rolls-Add (map (term_in Back) ys))
 layer_back (layer.Subtract c d) h =
     let gs = given (part (term_tree c.0)) ∷ given (part (term_tree d.0)) ∷ [] in
     ap (λ g. g.term) (branch_gives role.Subtract _ _)
-    ∙ ap (λ t. term.Subtract t (child role.Subtract 1 gs).term) (first_part role.Subtract c.0 (given (part (term_tree d.0)) ∷ []) refl ∙ c.1 (both_first (term_fits c.0) (term_fits d.0) h))
-    ∙ ap (term.Subtract c.0) (second_part role.Subtract (given (part (term_tree c.0))) d.0 (part_is_kept role.Subtract (term_tree c.0) refl) refl ∙ d.1 (both_second (term_fits c.0) (term_fits d.0) h))
+    ∙ ap (λ t. term.Subtract t (child role.Subtract 1 gs).term) (first_part role.Subtract c.0 (given (part (term_tree d.0)) ∷ []) refl ∙ c.1 (and_parts (term_fits c.0) (term_fits d.0) h).0)
+    ∙ ap (term.Subtract c.0) (second_part role.Subtract (given (part (term_tree c.0))) d.0 (part_is_kept role.Subtract (term_tree c.0) refl) refl ∙ d.1 (and_parts (term_fits c.0) (term_fits d.0) h).1)
     ∙ sym (term.rolls-Subtract c.0 d.0)
 layer_back (layer.BlockOf id c) h =
     ap (λ g. g.term) (branch_gives role.PartitionElementOf _ _)
     ∙ ap (term.BlockOf id) (first_part role.PartitionElementOf c.0 [] refl ∙ c.1 h) ∙ sym (term.rolls-BlockOf id c.0)
 
 pub term_back : (t : Term) → term_fits t ≡ true → (given (term_tree t)).term ≡ t
-term_back = ind-Term Back (λ x y is.
-    subst (λ z. Back (roll-Term z)) is
-    (λ h.
-    ap (λ e. (given e).term) (fold-roll-Term Element term_by_parts (plain y))
-    ∙ layer_back y (sym (fold-roll-Term Bool term_fits_by_parts (plain y)) ∙ h)))
+term_back = term_by_layers Back (λ y h.
+    ap (λ e. (given e).term) (fold-roll-Term Element term_by_parts (plain_term Back y))
+    ∙ layer_back y (sym (fold-roll-Term Bool term_fits_by_parts (plain_term Back y)) ∙ h))

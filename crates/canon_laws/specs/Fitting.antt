@@ -1,12 +1,11 @@
 -- Nets that a file can say: numbers are below 2^63 in absolute value, and sorts and labels are those of the net's kind.
-use Rattle.std.specs.Prelude.{◌≡◌, ◌<◌, ◌^◌, ℕ, ℤ, unsigned_abs, nat_lt, Bool, true, ◌&&◌, List, [], ◌∷◌, Option, None, Some}
+use Rattle.std.specs.Prelude.{◌≡◌, ◌<◌, ◌^◌, ℤ, unsigned_abs, nat_lt, Bool, true, ◌&&◌, List, [], ◌∷◌, Option, None, Some}
 use Rattle.std.specs.Bool.{⊤}
 use Rattle.std.specs.List.{list_all}
 use Rattle.colour_sorts.specs.declared.written.Span.{Span}
 use Rattle.colour_sorts.specs.declared.written.SortTerm.{SortTerm, fold-SortTerm}
 use Rattle.colour_sorts.specs.declared.written.SortTerm.TheOpen as sort
 use Rattle.colour_sorts.specs.declared.written.SortTerm.TheVariants as written
-use Rattle.colour_sorts.specs.declared.written.NamedSort.{NamedSort}
 use Rattle.colour_sorts.specs.declared.written.Member.{Member}
 use Rattle.colour_sorts.specs.declared.written.Member.TheVariants as member
 use Rattle.colour_sorts.specs.declared.written.Block.{Block}
@@ -19,7 +18,6 @@ use Rattle.net_elements.specs.declared.kinds.Kind.{Kind}
 use Rattle.net_elements.specs.declared.kinds.Kind.TheVariants.{Pt, Symmetric}
 use Rattle.net_model.specs.declared.nets.Label.{Label}
 use Rattle.net_model.specs.declared.nets.Label.TheVariants as label
-use Rattle.net_model.specs.declared.nets.Place.{Place}
 use Rattle.net_model.specs.declared.nets.Net.{Net}
 
 abbrev pub are_all : List Bool → Bool

@@ -1,7 +1,6 @@
 -- The net that a tree gives: what each element gives to the one around it, where no rule of the table is broken. What is passed
 -- over gives nothing.
-use Rattle.std.specs.Prelude.{ℕ, ℤ, pos, unsigned_abs, Bool, true, false, not, List, [], ◌∷◌, ◌++◌, map, filter, find, slice_index_or, Option, None, Some, codes, if◌then◌else◌}
-use Rattle.std.specs.List.{concat, flat_map}
+use Rattle.std.specs.Prelude.{ℕ, ℤ, pos, unsigned_abs, Bool, true, false, not, List, [], ◌∷◌, ◌++◌, map, filter, find, slice_index_or, Option, None, Some, codes}
 use Rattle.std.specs.Str.{bytes_eq}
 use Rattle.name_tables.specs.Grammar.{number_of}
 use Rattle.doc_model.specs.declared.tree.Attribute.{Attribute}
@@ -10,7 +9,6 @@ use Rattle.doc_model.specs.declared.tree.Element.TheOpen.{Element-F}
 use Rattle.colour_sorts.specs.declared.written.Span.{Span}
 use Rattle.colour_sorts.specs.declared.written.SortTerm.{SortTerm}
 use Rattle.colour_sorts.specs.declared.written.SortTerm.TheVariants as sort
-use Rattle.colour_sorts.specs.declared.written.NamedSort.{NamedSort}
 use Rattle.colour_sorts.specs.declared.written.Member.{Member}
 use Rattle.colour_sorts.specs.declared.written.Member.TheVariants as member
 use Rattle.colour_sorts.specs.declared.written.Block.{Block}
@@ -26,16 +24,11 @@ use Rattle.net_elements.specs.declared.kinds.Kind.TheVariants.{Pt, Symmetric}
 use Rattle.net_elements.specs.declared.roles.Role.{Role}
 use Rattle.net_elements.specs.declared.roles.Role.TheVariants as role
 use Rattle.net_elements.specs.Table.{sorts, terms, guards, word_of}
-use Rattle.net_elements.specs.Rules.{has, is_passed_over, kind_from, role_named, trimmed, truth_of, value_of}
+use Rattle.net_elements.specs.Rules.{is_passed_over, kind_from, role_named, trimmed, truth_of, value_of}
 use Rattle.net_model.specs.declared.nets.Label.{Label}
 use Rattle.net_model.specs.declared.nets.Label.TheVariants as label
-use Rattle.net_model.specs.declared.nets.Place.{Place}
-use Rattle.net_model.specs.declared.nets.Transition.{Transition}
-use Rattle.net_model.specs.declared.nets.Arc.{Arc}
 use Rattle.net_model.specs.declared.nets.RefKind.{RefKind}
 use Rattle.net_model.specs.declared.nets.RefKind.TheVariants as stands_for
-use Rattle.net_model.specs.declared.nets.Reference.{Reference}
-use Rattle.net_model.specs.declared.nets.VariableDecl.{VariableDecl}
 use Rattle.net_model.specs.declared.nets.Net.{Net}
 use Rattle.pnml_read.specs.declared.lists.Lists.{Lists}
 

@@ -1,5 +1,5 @@
 -- Parts of the tree, as the program goes over them.
-use Rattle.std.specs.Prelude.{List, Option, find, map}
+use Rattle.std.specs.Prelude.{List, Option, find}
 use Rattle.std.specs.Str.{bytes_eq}
 use Rattle.doc_model.specs.declared.tree.Element.{Element, out-Element}
 use Rattle.net_elements.specs.declared.roles.Role.{Role}
