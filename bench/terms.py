@@ -1,16 +1,16 @@
 #!/usr/bin/env python3
-"""Time for each cell of a value, and the allocations of a guard.
+"""Time for each cell of a value, and for each comparison of a guard; and the allocations of a guard.
 
     bench/terms.py PROGRAM
 
 PROGRAM is the built program crates/term_probe/out/term_probe. Each size is evaluated in many turns and in
-one turn, and the difference of the times is shared out over the cells of the turns between.
+one turn, and the difference of the times is shared out over the cells or comparisons of the turns between.
+Between two turns of a guard the program pauses for some tens of nanoseconds, which are counted with them.
 Each command runs three times, and the fastest counts. Shown are nanoseconds; where they stay alike as the
 size grows, the time is in proportion to it.
 
 Where `valgrind` is there, it counts the program's allocations with a guard that is evaluated once and a
-thousand times: where the counts are the same, `holds` takes no memory. The time of a guard isn't shown, since the
-compiler takes its equal turns together.
+thousand times: where the counts are the same, `holds` takes no memory.
 """
 import os
 import re
@@ -20,7 +20,7 @@ import sys
 import time
 
 WORK = 1 << 24
-SIZES = {"all": [1 << 10, 1 << 15, 1 << 20], "sum": [10, 100, 1_000]}
+SIZES = {"all": [1 << 10, 1 << 15, 1 << 20], "sum": [10, 100, 1_000], "guard": [10, 100, 1_000]}
 
 
 def run(words):

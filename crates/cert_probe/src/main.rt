@@ -9,7 +9,7 @@ ghost use Rattle.cert_reader.specs.Grammar.{IsCertificate};
 use cert_reader::{Cert, CertFault, read_cert};
 use host_io::HostFiles;
 use name_tables::Name;
-use pnml_inputs::{MAX_BYTES, Role, read_input};
+use pnml_inputs::{Role, read_input};
 use std::alloc::Global;
 use std::process::ExitCode;
 use std::{env, mem};
@@ -35,9 +35,6 @@ fn main(rt: HostRuntime) -> ExitCode {
     let Ok(bytes) = read_input(rt.alloc(), Role::Cert, &name, &mut files) else {
         return ExitCode::from(3);
     };
-    if bytes.len() > MAX_BYTES {
-        return ExitCode::from(3);
-    }
     let printed = match certificate(rt.alloc(), bytes.as_slice()) {
         Ok(cert) => {
             // The process ends here, which frees it at once.

@@ -9,7 +9,7 @@ ghost use Rattle.doc_tree.specs.Reading.{FinishAnswer};
 use doc_tree::{DocFault, Element, read_pieces};
 use host_io::HostFiles;
 use name_tables::Name;
-use pnml_inputs::{MAX_BYTES, Role, read_input};
+use pnml_inputs::{Role, read_input};
 use std::alloc::Global;
 use std::env;
 use std::process::ExitCode;
@@ -35,9 +35,6 @@ fn main(rt: HostRuntime) -> ExitCode {
     let Ok(bytes) = read_input(rt.alloc(), Role::Net, &name, &mut files) else {
         return ExitCode::from(3);
     };
-    if bytes.len() > MAX_BYTES {
-        return ExitCode::from(3);
-    }
     let printed = match document(rt.alloc(), bytes.as_slice()) {
         Ok(_) => println!(rt; "document"),
         Err(DocFault::Malformed { offset }) => println!(rt; "malformed {offset}"),

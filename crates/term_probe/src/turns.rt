@@ -7,6 +7,7 @@ use multiset_terms::{
     CGuard, CTerm, Guard, Term, compile_guard, compile_term, eval, holds, is_block,
 };
 use std::alloc::Global;
+use std::hint::spin_loop;
 use term_scopes::{Scope, is_binding};
 
 /// How many cells the value of a term has, in so many turns together.
@@ -56,6 +57,9 @@ fn cells(alloc: Global, scope: &Scope, term: &Term, variables: u32, turns: u32) 
 }
 
 /// In how many turns a guard is true, times its comparisons.
+///
+/// A pause stands between the turns: without it the compiler takes them together, since nothing changes from one to
+/// the next.
 fn comparisons_in_turns(domains: &Domains, guard: &CGuard, indices: &[u32], turns: u32) -> u64
     requires { CanBeJudged domains.now guard.now indices.now }
 {
@@ -64,6 +68,7 @@ fn comparisons_in_turns(domains: &Domains, guard: &CGuard, indices: &[u32], turn
         if holds(domains, guard, indices) {
             made = made.saturating_add(indices.len() as u64);
         }
+        spin_loop();
     }
     made
 }
