@@ -380,6 +380,8 @@ fine <place id='p'><type><structure other='x'><name><text/><x/></name><dot/><gra
 missing-child <place id='p'><type>^<structure/></type></place>
 fine <place id='p'><type><structure><dot/></structure></type><hlinitialMarking><structure other='x'><name><text/><x/></name><dotconstant/><graphics/><toolspecific><net/></toolspecific></structure></hlinitialMarking></place>
 missing-child <place id='p'><type><structure><dot/></structure></type><hlinitialMarking>^<structure/></hlinitialMarking></place>
+missing-child <arc id='p' source='a' target='b'><hlinscription>^<structure/></hlinscription></arc>
+unexpected <arc id='p' source='a' target='b'><hlinscription><structure>^<y/></structure></hlinscription></arc>
 fine <transition id='t'><condition><structure other='x'><name><text/><x/></name><booleanconstant value='true'/><graphics/><toolspecific><net/></toolspecific></structure></condition></transition>
 missing-child <transition id='t'><condition>^<structure/></condition></transition>
 fine <declaration><structure other='x'><name><text/><x/></name><declarations/><graphics/><toolspecific><net/></toolspecific></structure></declaration>
@@ -952,6 +954,10 @@ unexpected <namedsort id='s'><cyclicenumeration><feconstant id='a1'>^<y/></fecon
 duplicate-id <namedsort id='s'><cyclicenumeration><feconstant id='a1'/>^<feconstant id='a1'/></cyclicenumeration></namedsort>
 duplicate-id <namedsort id='a'><finiteenumeration>^<feconstant id='a'/></finiteenumeration></namedsort>
 duplicate-id <variabledecl id='a'><dot/></variabledecl>^<namedsort id='a'><dot/></namedsort>
+duplicate-id <partition id='a1'><dot/></partition>^<partition id='a1'><dot/></partition>
+duplicate-id <variabledecl id='a'><dot/></variabledecl>^<partition id='a'><dot/></partition>
+duplicate-id <namedsort id='s'><finiteenumeration><feconstant id='a'/></finiteenumeration></namedsort>^<partition id='a'><dot/></partition>
+duplicate-id <partition id='a'><dot/></partition>^<variabledecl id='a'><dot/></variabledecl>
 duplicate-id <partition id='a'><dot/>^<partitionelement id='a'/></partition>
 duplicate-id <partition id='a'><dot/><partitionelement id='e'/></partition><partition id='b'><dot/>^<partitionelement id='e'/></partition>
 duplicate-id <namedsort id='a'><finiteenumeration><feconstant id='e'/></finiteenumeration></namedsort><namedsort id='b'><cyclicenumeration>^<feconstant id='e'/></cyclicenumeration></namedsort>
