@@ -5,8 +5,9 @@
 
 PROGRAM is the built program crates/pnml_cli/out/pnml_cli, MIB a size (1, 8 and 60 where none is given).
 xmllint, of libxml2-utils, reads the same file and writes it with its own white. Both write into a file in
-a temporary folder, and `canon` of what `canon` wrote has to be the same again. Each command runs three
-times, and the fastest is shown.
+a temporary folder, and `canon` of what `canon` wrote has to be the same again. xmllint isn't run on the net
+with very many attributes. Each command runs three times, and the fastest is shown. A line shows how time and
+memory grow, too: milliseconds and MiB for each MiB of the file.
 """
 import filecmp
 import os
@@ -50,6 +51,30 @@ def symmetric(size):
     return HEAD % b"symmetricnet" + declared + b"".join(each % ((k,) * 5) for k in range(count)) + FOOT
 
 
+def nodes(size):
+    """Very many nodes: places and transitions with an id alone, some 2.5 million of them in 60 MiB."""
+    each = b'<place id="p%07d"/><transition id="t%07d"/>'
+    count = size // len(each % (0, 0))
+    return HEAD % b"ptnet" + b"".join(each % (k, k) for k in range(count)) + FOOT
+
+
+def white(size):
+    """White before the root of a small net, and as much behind it."""
+    small = (b'<pnml><net id="n" type="http://www.pnml.org/version-2009/grammar/ptnet"><page id="g"><place id="p"/></page></net></pnml>')
+    return b" " * (size // 2) + small + b"\n" * (size // 2)
+
+
+def attributes(size):
+    """One place with very many attributes that say nothing of the net."""
+    return HEAD % b"ptnet" + b'<place id="p"' + b"".join(b" b%07d=''" % k for k in range(size // 12)) + b"/>" + FOOT
+
+
+def asides(size):
+    """One place with very many children that are passed over, before its marking and behind it."""
+    passed = b"<graphics/>" * (size // 22)
+    return HEAD % b"ptnet" + b'<place id="p">' + passed + b"<initialMarking><text>1</text></initialMarking>" + passed + b"</place>" + FOOT
+
+
 def run(words, output):
     """Fastest seconds and peak memory in MiB of three runs that write into a file."""
     best, peak = 1e9, 0
@@ -69,8 +94,8 @@ def run(words, output):
 def main():
     program = os.path.abspath(sys.argv[1])
     sizes = [int(word) for word in sys.argv[2:]] or [1, 8, 60]
-    print("net          MiB  seconds  peak MiB   xmllint  peak MiB")
-    for maker in (plain, symmetric):
+    print("net          MiB  seconds  ms/MiB  peak MiB  MiB/MiB   xmllint  peak MiB")
+    for maker in (plain, symmetric, nodes, white, attributes, asides):
         for size in sizes:
             with tempfile.TemporaryDirectory() as folder:
                 path, written, again = (os.path.join(folder, name) for name in ("net", "written", "again"))
@@ -81,11 +106,14 @@ def main():
                     print(f"{maker.__name__} {size}: the canonical text isn't canonised as itself")
                     sys.exit(1)
                 beside = "isn't there"
-                if shutil.which("xmllint"):
+                if maker is attributes:
+                    beside = "takes many minutes"
+                elif shutil.which("xmllint"):
                     their_seconds, their_peak = run(["xmllint", "--huge", "--format", path], again)
                     beside = f"{their_seconds:7.2f}  {their_peak:8.0f}"
                 size_read = os.path.getsize(path) / MIB
-                print(f"{maker.__name__:10s}  {size_read:5.1f}  {seconds:7.2f}  {peak:8.0f}   {beside}", flush=True)
+                print(f"{maker.__name__:10s}  {size_read:5.1f}  {seconds:7.2f}  {seconds * 1000 / size_read:6.1f}  {peak:8.0f}"
+                      f"  {peak / size_read:7.1f}   {beside}", flush=True)
 
 
 main()

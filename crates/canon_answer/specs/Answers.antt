@@ -4,9 +4,9 @@ use Rattle.host_io.specs.Held.{Held}
 use Rattle.pnml_inputs.specs.Reading.{Reading, too_long, file_reading}
 use Rattle.pnml_inputs.specs.declared.inputs.Role.{Role}
 use Rattle.pnml_inputs.specs.declared.inputs.Role.TheVariants.{Net}
-use Rattle.check_answer.specs.Answers.{IsAnswerRead}
-use Rattle.check_answer.specs.declared.outcomes.Outcome.{Outcome}
-use Rattle.check_answer.specs.declared.outcomes.Outcome.TheVariants.{TooLong}
+use Rattle.answers.specs.Answers.{IsAnswerRead}
+use Rattle.answers.specs.declared.outcomes.Outcome.{Outcome}
+use Rattle.answers.specs.declared.outcomes.Outcome.TheVariants.{TooLong}
 use Rattle.canon_answer.specs.Canons.{IsCanon}
 
 -- what reading the file of the net comes to

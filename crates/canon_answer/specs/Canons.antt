@@ -9,8 +9,10 @@ use Rattle.doc_tree.specs.Reading.{FinishAnswer}
 use Rattle.net_elements.specs.Rules.{broken_rules}
 use Rattle.pnml_read.specs.Nets.{net_of}
 use Rattle.pnml_write.specs.Canon.{canonical_text}
-use Rattle.check_answer.specs.declared.outcomes.Outcome.{Outcome}
-use Rattle.check_answer.specs.declared.outcomes.Outcome.TheVariants.{Done, Refused}
+use Rattle.pnml_inputs.specs.declared.inputs.Role.TheVariants.{Net}
+use Rattle.answers.specs.Refusals.{refusal_line}
+use Rattle.answers.specs.declared.outcomes.Outcome.{Outcome}
+use Rattle.answers.specs.declared.outcomes.Outcome.TheVariants.{Done, Refused}
 
 -- the word for a broken rule
 abbrev pub rule_word : Fault → List ℕ
@@ -25,11 +27,11 @@ rule_word fault.DuplicateId = codes "duplicate-id"
 
 -- the line of a file that is no document, `refused net WORD OFFSET`
 abbrev pub damage_line : List ℕ → ℕ → List ℕ
-damage_line word at = codes "refused net " ++ word ++ 32 ∷ decimal at ++ 10 ∷ []
+damage_line word at = refusal_line Net (word ++ 32 ∷ decimal at)
 
 -- the line of a tree that is no net, `refused net structure OFFSET RULE`
 abbrev pub rule_line : ℕ → Fault → List ℕ
-rule_line at rule = codes "refused net structure " ++ decimal at ++ 32 ∷ rule_word rule ++ 10 ∷ []
+rule_line at rule = refusal_line Net (codes "structure " ++ decimal at ++ 32 ∷ rule_word rule)
 
 -- a tree is refused by the first of the rules that it breaks; where there is none, its net is written
 abbrev pub IsCanonOf : Element → List (ℕ × Fault) → Outcome → List ℕ → Type 0

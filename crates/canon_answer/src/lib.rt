@@ -7,6 +7,5 @@ mod laws;
 mod lines;
 mod replies;
 
-pub use check_answer::{Outcome, Reply};
 pub use laws::too_long_is_told;
 pub use replies::canon;

@@ -1,8 +1,9 @@
 ghost use Rattle.std.specs.Prelude.{◌≡◌, IfOk};
 ghost use Rattle.canon_answer.specs.Canons.{damage_line, rule_line, rule_word};
 
+use answers::{put, put_number, refusal_text};
 use doc_tree::Fault;
-use itoa::Buffer;
+use pnml_inputs::Role;
 use std::alloc::Global;
 use wide_sums::Memory;
 
@@ -26,24 +27,21 @@ fn rule_word(rule: Fault) -> &'static [u8]
 pub fn damage_text(alloc: Global, word: &[u8], at: u64) -> Result<Vec<u8>, Memory>
     ensures { IfOk result (λ text. text.items ≡ damage_line word.now at) }
 {
-    let mut text = Vec::new(alloc);
-    text.extend_from_slice(b"refused net ")?;
-    text.extend_from_slice(word)?;
-    text.extend_from_slice(b" ")?;
-    text.extend_from_slice(Buffer::new().format(at).as_bytes())?;
-    text.extend_from_slice(b"\n")?;
-    Ok(text)
+    let mut place = Vec::new(alloc);
+    put(&mut place, word)?;
+    put(&mut place, b" ")?;
+    put_number(&mut place, at)?;
+    refusal_text(alloc, Role::Net, &place)
 }
 
 /// The line `refused net structure OFFSET RULE`.
 pub fn rule_text(alloc: Global, at: u64, rule: Fault) -> Result<Vec<u8>, Memory>
     ensures { IfOk result (λ text. text.items ≡ rule_line at rule) }
 {
-    let mut text = Vec::new(alloc);
-    text.extend_from_slice(b"refused net structure ")?;
-    text.extend_from_slice(Buffer::new().format(at).as_bytes())?;
-    text.extend_from_slice(b" ")?;
-    text.extend_from_slice(rule_word(rule))?;
-    text.extend_from_slice(b"\n")?;
-    Ok(text)
+    let mut place = Vec::new(alloc);
+    put(&mut place, b"structure ")?;
+    put_number(&mut place, at)?;
+    put(&mut place, b" ")?;
+    put(&mut place, rule_word(rule))?;
+    refusal_text(alloc, Role::Net, &place)
 }

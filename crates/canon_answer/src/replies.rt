@@ -3,11 +3,11 @@ ghost use Rattle.doc_tree.specs.Reading.{FinishAnswer};
 ghost use Rattle.net_elements.specs.Rules.{broken_rules};
 ghost use Rattle.net_elements.specs.Walking.{IsFirst};
 ghost use Rattle.pnml_read.specs.Nets.{net_of};
-ghost use Rattle.check_answer.specs.Outcomes.{IsFinal};
+ghost use Rattle.answers.specs.Outcomes.{IsFinal};
 ghost use Rattle.canon_answer.specs.Canons.{IsCanon, IsCanonOf, damage_line};
 
 use crate::lines::{damage_text, rule_text};
-use check_answer::{Outcome, Reply};
+use answers::{Outcome, Reply};
 use doc_tree::{DocFault, Element, read_pieces};
 use net_elements::ReadFault;
 use net_model::Net;

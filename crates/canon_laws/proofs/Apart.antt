@@ -8,7 +8,7 @@ use Rattle.std.specs.Str.{bytes_eq}
 use Rattle.name_tables.proofs.Places.{position_none}
 use Rattle.doc_tree.specs.declared.faults.Fault.TheVariants as fault
 use Rattle.net_elements.specs.Rules.{Note, broken_from, has, is_among, node, nothing_met, symbol}
-use Rattle.canon_laws.proofs.Sound.{Differ}
+use Rattle.pnml_read.proofs.Distinct.{Differ}
 
 -- an id that isn't counted isn't there
 count_none : (p : List ℕ → Bool) (xs : List (List ℕ)) → count_by p xs ≡ 0 → list_any p xs ≡ false

@@ -18,8 +18,8 @@ use Rattle.net_elements.specs.declared.roles.Role.{Role}
 use Rattle.net_elements.specs.declared.roles.Role.TheVariants as role
 use Rattle.net_elements.specs.Table.{key_word_of, word_of}
 use Rattle.pnml_write.specs.Canon.{attribute_id, branch, declared_id, holder}
-use Rattle.canon_laws.specs.Fitting.{Each}
-use Rattle.canon_laws.proofs.Each.{each_true}
+use Rattle.pnml_read.specs.Each.{Each}
+use Rattle.pnml_read.proofs.Each.{each_true}
 use Rattle.canon_laws.proofs.Characters.{ascii_name, digit_characters, id_characters, is_ascii_name}
 use Rattle.canon_laws.proofs.Texts.{digit_is_dark}
 

@@ -3,12 +3,12 @@ use Rattle.std.proofs.Common.{◌≡◌, true, false, not, cond, List, [], ◌�
 use Rattle.std.proofs.lemmas.Bool.{and_parts}
 use Rattle.std.specs.List.{filter, list_all}
 use Rattle.doc_model.specs.declared.tree.Element.{Element}
-use Rattle.colour_sorts.specs.declared.written.NamedSort.{NamedSort}
-use Rattle.colour_sorts.specs.declared.written.Member.{Member}
-use Rattle.colour_sorts.specs.declared.written.Member.TheVariants as member
-use Rattle.colour_sorts.specs.declared.written.Block.{Block}
-use Rattle.colour_sorts.specs.declared.written.Partition.{Partition}
-use Rattle.net_elements.specs.declared.kinds.Kind.{Kind}
+use Rattle.net_model.specs.declared.sorts.NamedSort.{NamedSort}
+use Rattle.net_model.specs.declared.sorts.Member.{Member}
+use Rattle.net_model.specs.declared.sorts.Member.TheVariants as member
+use Rattle.net_model.specs.declared.sorts.Block.{Block}
+use Rattle.net_model.specs.declared.sorts.Partition.{Partition}
+use Rattle.net_model.specs.declared.kinds.Kind.{Kind}
 use Rattle.net_elements.specs.declared.roles.Role.TheVariants as role
 use Rattle.net_elements.specs.Rules.{is_aside, is_passed_over}
 use Rattle.net_model.specs.declared.nets.VariableDecl.{VariableDecl}
@@ -16,7 +16,8 @@ use Rattle.pnml_read.specs.declared.lists.Lists.{Lists}
 use Rattle.pnml_read.specs.Nets.{both, child, given, is_block, kept, lists_in, no_lists, nothing}
 use Rattle.pnml_write.specs.Canon.{block_tree, declared_id, member_tree, named_sort_tree, partition_tree, range_tree, sort_tree, variable_tree}
 use Rattle.canon_laws.specs.Fitting.{block_fits, fits, member_fits, partition_fits, sort_fits, span_fits}
-use Rattle.canon_laws.proofs.Elements.{branch_gives, first_child, kept_first, or_false}
+use Rattle.pnml_read.proofs.Elements.{first_child, kept_first, or_false}
+use Rattle.canon_laws.proofs.Elements.{branch_gives}
 use Rattle.canon_laws.proofs.Lists.{first_lists}
 use Rattle.canon_laws.proofs.Numbers.{signed_back}
 use Rattle.canon_laws.proofs.Sorts.{sort_aside, sort_back, sort_is_no_block}

@@ -2,12 +2,12 @@
 use Rattle.std.proofs.Common.{◌≡◌, Bool, true, false, ◌&&◌, List, [], ◌∷◌, map, refl, ap, sym, ◌∙◌}
 use Rattle.std.proofs.lemmas.Bool.{and_parts}
 use Rattle.doc_model.specs.declared.tree.Element.{Element}
-use Rattle.multiset_terms.specs.declared.terms.Order.{Order}
-use Rattle.multiset_terms.specs.declared.terms.Order.TheVariants as order
-use Rattle.multiset_terms.specs.declared.terms.Term.{Term}
-use Rattle.multiset_terms.specs.declared.terms.Guard.{Guard, map-Guard, out-Guard, roll-Guard, fold-roll-Guard, fold_out-Guard}
-use Rattle.multiset_terms.specs.declared.terms.Guard.TheOpen as layer
-use Rattle.multiset_terms.specs.declared.terms.Guard.TheVariants as guard
+use Rattle.net_model.specs.declared.terms.Order.{Order}
+use Rattle.net_model.specs.declared.terms.Order.TheVariants as order
+use Rattle.net_model.specs.declared.terms.Term.{Term}
+use Rattle.net_model.specs.declared.terms.Guard.{Guard, map-Guard, out-Guard, roll-Guard, fold-roll-Guard, fold_out-Guard}
+use Rattle.net_model.specs.declared.terms.Guard.TheOpen as layer
+use Rattle.net_model.specs.declared.terms.Guard.TheVariants as guard
 use Rattle.net_elements.specs.declared.roles.Role.{Role}
 use Rattle.net_elements.specs.declared.roles.Role.TheVariants as role
 use Rattle.net_elements.specs.Rules.{is_aside, is_passed_over}
@@ -15,8 +15,9 @@ use Rattle.net_elements.specs.Table.{word_of}
 use Rattle.pnml_read.specs.Nets.{Given, child, compare, given}
 use Rattle.pnml_write.specs.Canon.{guard_by_parts, guard_part_tree, guard_tree, holder, order_role, part, term_tree}
 use Rattle.canon_laws.specs.Fitting.{guard_fits, guard_fits_by_parts, term_fits}
-use Rattle.canon_laws.proofs.Layers.{KnownGuard, guard_by_layers, guard_in, plain_guard}
-use Rattle.canon_laws.proofs.Elements.{branch_gives, first_child, or_false, parts_back, second_child}
+use Rattle.net_model.proofs.Inductions.{KnownGuard, guard_by_layers, guard_in, plain_guard}
+use Rattle.pnml_read.proofs.Elements.{first_child, or_false, second_child}
+use Rattle.canon_laws.proofs.Elements.{branch_gives, parts_back}
 use Rattle.canon_laws.proofs.Terms.{first_part, part_is_kept, second_part, term_back}
 
 -- the tree of a guard is no name, graphic or tool's own

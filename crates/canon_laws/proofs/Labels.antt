@@ -4,11 +4,11 @@ use Rattle.std.proofs.lemmas.Bool.Decides.{nat_tests}
 use Rattle.std.specs.Fmt.{decimal}
 use Rattle.doc_model.specs.declared.tree.Element.{Element}
 use Rattle.doc_model.specs.Trees.{element}
-use Rattle.colour_sorts.specs.declared.written.SortTerm.{SortTerm}
-use Rattle.multiset_terms.specs.declared.terms.Term.{Term}
-use Rattle.multiset_terms.specs.declared.terms.Guard.{Guard}
-use Rattle.net_elements.specs.declared.kinds.Kind.{Kind}
-use Rattle.net_elements.specs.declared.kinds.Kind.TheVariants.{Pt, Symmetric}
+use Rattle.net_model.specs.declared.sorts.SortTerm.{SortTerm}
+use Rattle.net_model.specs.declared.terms.Term.{Term}
+use Rattle.net_model.specs.declared.terms.Guard.{Guard}
+use Rattle.net_model.specs.declared.kinds.Kind.{Kind}
+use Rattle.net_model.specs.declared.kinds.Kind.TheVariants.{Pt, Symmetric}
 use Rattle.net_elements.specs.declared.roles.Role.{Role}
 use Rattle.net_elements.specs.declared.roles.Role.TheVariants as role
 use Rattle.net_elements.specs.Rules.{is_aside}
@@ -18,7 +18,8 @@ use Rattle.net_model.specs.declared.nets.Label.TheVariants as label
 use Rattle.pnml_read.specs.Nets.{Given, given, guard_or_none, inscription_of, marking_of, named, number_or, sort_or_dot}
 use Rattle.pnml_write.specs.Canon.{condition_trees, guard_tree, holder, label_trees, sort_tree, term_label, term_tree, text_label, type_trees, unless_usual}
 use Rattle.canon_laws.specs.Fitting.{GuardFits, LabelFits, SortFits, sort_fits, term_fits}
-use Rattle.canon_laws.proofs.Elements.{branch_given, branch_gives, element_gives, first_child, gives, or_false}
+use Rattle.pnml_read.proofs.Elements.{element_gives, first_child, gives, or_false}
+use Rattle.canon_laws.proofs.Elements.{branch_given, branch_gives}
 use Rattle.canon_laws.proofs.Guards.{guard_aside, guard_back}
 use Rattle.canon_laws.proofs.Sorts.{sort_aside, sort_back}
 use Rattle.canon_laws.proofs.Terms.{term_aside, term_back}

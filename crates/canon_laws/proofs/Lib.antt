@@ -1,5 +1,3 @@
-pub mod Each
-pub mod Layers
 pub mod Elements
 pub mod Numbers
 pub mod Texts
@@ -11,11 +9,6 @@ pub mod Labels
 pub mod Declared
 pub mod Nodes
 pub mod Sound
-pub mod Noted
-pub mod ReadRoles
-pub mod Weights
-pub mod Declaring
-pub mod Distinct
 pub mod Spelled
 pub mod Characters
 pub mod Branches

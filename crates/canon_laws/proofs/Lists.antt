@@ -1,12 +1,12 @@
 -- What the trees of nodes and declarations have, in lists.
 use Rattle.std.proofs.Common.{◌≡◌, false, List, [], ◌∷◌, ◌++◌, map, ap, ◌∙◌}
 use Rattle.std.proofs.lemmas.List.{append-nil}
-use Rattle.net_elements.specs.declared.kinds.Kind.{Kind}
+use Rattle.net_model.specs.declared.kinds.Kind.{Kind}
 use Rattle.net_elements.specs.declared.roles.Role.{Role}
 use Rattle.net_elements.specs.Rules.{is_passed_over}
 use Rattle.pnml_read.specs.declared.lists.Lists.{Lists}
 use Rattle.pnml_read.specs.Nets.{Given, both, joined, lists_in, no_lists}
-use Rattle.canon_laws.proofs.Elements.{kept_first}
+use Rattle.pnml_read.proofs.Elements.{kept_first}
 
 pub both_none : (a : Lists) → both a no_lists ≡ a
 both_none a =

@@ -6,8 +6,8 @@ use Rattle.std.specs.Str.{bytes_eq}
 use Rattle.doc_model.specs.declared.tree.Element.{Element, out-Element, out-roll-Element}
 use Rattle.doc_model.specs.declared.tree.Element.TheOpen.{Element-F}
 use Rattle.doc_model.specs.Trees.{attribute}
-use Rattle.net_elements.specs.declared.kinds.Kind.{Kind}
-use Rattle.net_elements.specs.declared.kinds.Kind.TheVariants.{Pt, Symmetric}
+use Rattle.net_model.specs.declared.kinds.Kind.{Kind}
+use Rattle.net_model.specs.declared.kinds.Kind.TheVariants.{Pt, Symmetric}
 use Rattle.net_elements.specs.declared.roles.Role.TheVariants as role
 use Rattle.net_elements.specs.Rules.{is_passed_over, kind_from, value_of}
 use Rattle.net_elements.specs.Table.{word_of}
@@ -21,7 +21,8 @@ use Rattle.net_model.specs.declared.nets.Net.{Net}
 use Rattle.pnml_read.specs.declared.lists.Lists.{Lists}
 use Rattle.pnml_read.specs.Nets.{both, given, lists_in, marking_of, net_in, net_of, net_with, no_lists, text_in}
 use Rattle.pnml_write.specs.Canon.{arc_tree, attribute_id, condition_trees, declaration_trees, declared_trees, holder, kind_text, label_trees, leaf_with, named_sort_tree, net_tree, page_tree, partition_tree, place_tree, reference_role, reference_tree, transition_tree, tree_of, type_trees, variable_tree}
-use Rattle.canon_laws.specs.Fitting.{Each, GuardFits, LabelFits, NetFits, SortFits}
+use Rattle.pnml_read.specs.Each.{Each}
+use Rattle.canon_laws.specs.Fitting.{GuardFits, LabelFits, NetFits, SortFits}
 use Rattle.canon_laws.proofs.Elements.{branch_gives}
 use Rattle.canon_laws.proofs.Declared.{partitions_in, sorts_in, variables_in}
 use Rattle.canon_laws.proofs.Labels.{condition_back, inscription_back, marking_back, place_sort_back}

@@ -3,7 +3,7 @@ use Rattle.std.proofs.Common.{◌≡◌, ℕ, ◌<◌, ◌^◌, ℤ, unsigned_ab
 use Rattle.std.proofs.lemmas.Bool.{and_parts, ltb-true}
 use Rattle.std.specs.Fmt.{decimal, signed_decimal}
 use Rattle.name_tables.proofs.Numbers.{decimal-read_back, signed_decimal-read_back}
-use Rattle.colour_sorts.specs.declared.written.Span.{Span}
+use Rattle.net_model.specs.declared.sorts.Span.{Span}
 use Rattle.pnml_read.specs.Nets.{or_zero, signed, unsigned}
 use Rattle.canon_laws.specs.Fitting.{fits, span_fits}
 

@@ -9,8 +9,8 @@ use Rattle.doc_tree.specs.declared.faults.Fault.{Fault}
 use Rattle.doc_tree.specs.declared.faults.Fault.TheVariants as fault
 use Rattle.doc_tree.specs.Writable
 use Rattle.doc_tree.specs.Writable.{AreSameTrees, IsSameTree}
-use Rattle.net_elements.specs.declared.kinds.Kind.{Kind}
-use Rattle.net_elements.specs.declared.kinds.Kind.TheVariants.{Pt}
+use Rattle.net_model.specs.declared.kinds.Kind.{Kind}
+use Rattle.net_model.specs.declared.kinds.Kind.TheVariants.{Pt}
 use Rattle.net_elements.specs.declared.roles.Key.{Key}
 use Rattle.net_elements.specs.declared.roles.Key.TheVariants as key
 use Rattle.net_elements.specs.declared.roles.Role.{Role}

@@ -8,7 +8,7 @@ use Rattle.net_model.specs.declared.nets.Net.{Net}
 use Rattle.pnml_read.specs.Nets.{net_of}
 use Rattle.pnml_write.specs.Canon.{canonical_text, tree_of}
 use Rattle.canon_laws.specs.Laws.{IsRead, ReadNetsAreSpelled, ReadNetsAreToldApart, ReadNetsStay}
-use Rattle.canon_laws.proofs.Distinct.{ids_differ}
+use Rattle.pnml_read.proofs.Distinct.{ids_differ}
 use Rattle.canon_laws.proofs.Offsets.{rules_same}
 use Rattle.canon_laws.proofs.Sound.{NetIsSound}
 use Rattle.canon_laws.proofs.Spelled.{texts_tell, same_net_of}

@@ -3,18 +3,20 @@ use Rattle.std.proofs.Common.{◌≡◌, ℕ, Bool, true, false, List, [], ◌�
 use Rattle.std.proofs.lemmas.Bool.{and_parts}
 use Rattle.std.specs.Str.{bytes_eq}
 use Rattle.doc_model.specs.declared.tree.Element.{Element}
-use Rattle.colour_sorts.specs.declared.written.SortTerm.{SortTerm, map-SortTerm, out-SortTerm, roll-SortTerm, fold-roll-SortTerm, fold_out-SortTerm}
-use Rattle.colour_sorts.specs.declared.written.SortTerm.TheOpen as layer
-use Rattle.colour_sorts.specs.declared.written.SortTerm.TheVariants as sort
+use Rattle.net_model.specs.declared.sorts.SortTerm.{SortTerm, map-SortTerm, out-SortTerm, roll-SortTerm, fold-roll-SortTerm, fold_out-SortTerm}
+use Rattle.net_model.specs.declared.sorts.SortTerm.TheOpen as layer
+use Rattle.net_model.specs.declared.sorts.SortTerm.TheVariants as sort
 use Rattle.net_elements.specs.declared.roles.Role.{Role}
 use Rattle.net_elements.specs.declared.roles.Role.TheVariants as role
 use Rattle.net_elements.specs.Rules.{is_aside, is_passed_over}
 use Rattle.net_elements.specs.Table.{word_of}
 use Rattle.pnml_read.specs.Nets.{given, kept}
 use Rattle.pnml_write.specs.Canon.{constant_tree, declared_id, sort_by_parts, sort_tree}
-use Rattle.canon_laws.specs.Fitting.{are_all, sort_fits, sort_fits_by_parts}
-use Rattle.canon_laws.proofs.Layers.{KnownSort, plain_sort, sort_by_layers, sort_in}
-use Rattle.canon_laws.proofs.Elements.{branch_gives, kept_first, or_false}
+use Rattle.pnml_read.specs.Each.{are_all}
+use Rattle.canon_laws.specs.Fitting.{sort_fits, sort_fits_by_parts}
+use Rattle.net_model.proofs.Inductions.{KnownSort, plain_sort, sort_by_layers, sort_in}
+use Rattle.pnml_read.proofs.Elements.{kept_first, or_false}
+use Rattle.canon_laws.proofs.Elements.{branch_gives}
 use Rattle.canon_laws.proofs.Numbers.{span_back}
 
 -- the tree of a sort is no name, graphic or tool's own, and no block of a partition

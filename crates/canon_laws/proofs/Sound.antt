@@ -1,24 +1,23 @@
 -- What a net is that a tree gives which breaks no rule: ids are ids, numbers can be written, sums and tuples have parts, and the
 -- ids of the nodes and of the symbols are distinct.
-use Rattle.std.specs.Prelude.{◌≡◌, ◌<◌, ◌^◌, ◌==◌, ℕ, nat_lt, Bool, true, false, not, ◌&&◌, List, [], ◌∷◌, ◌++◌, map, length, count_by, Option, None, Some}
+use Rattle.std.specs.Prelude.{◌≡◌, ◌<◌, ◌^◌, ◌==◌, ℕ, nat_lt, Bool, true, false, not, ◌&&◌, List, [], ◌∷◌, length, Option, None, Some}
 use Rattle.std.specs.Bool.{⊤}
-use Rattle.std.specs.List.{flat_map, list_all}
-use Rattle.std.specs.Str.{bytes_eq}
+use Rattle.std.specs.List.{list_all}
 use Rattle.name_tables.specs.Grammar.{is_id_text}
-use Rattle.colour_sorts.specs.declared.written.SortTerm.{SortTerm, fold-SortTerm, out-SortTerm}
-use Rattle.colour_sorts.specs.declared.written.SortTerm.TheOpen as sort
-use Rattle.colour_sorts.specs.declared.written.SortTerm.TheVariants as written
-use Rattle.colour_sorts.specs.declared.written.NamedSort.{NamedSort}
-use Rattle.colour_sorts.specs.declared.written.Member.{Member}
-use Rattle.colour_sorts.specs.declared.written.Member.TheVariants as member
-use Rattle.colour_sorts.specs.declared.written.Block.{Block}
-use Rattle.colour_sorts.specs.declared.written.Partition.{Partition}
-use Rattle.multiset_terms.specs.declared.terms.Term.{Term, fold-Term}
-use Rattle.multiset_terms.specs.declared.terms.Term.TheOpen as term
-use Rattle.multiset_terms.specs.declared.terms.Guard.{Guard, fold-Guard}
-use Rattle.multiset_terms.specs.declared.terms.Guard.TheOpen as guard
-use Rattle.net_elements.specs.declared.kinds.Kind.{Kind}
-use Rattle.net_elements.specs.declared.kinds.Kind.TheVariants.{Pt, Symmetric}
+use Rattle.net_model.specs.declared.sorts.SortTerm.{SortTerm, fold-SortTerm, out-SortTerm}
+use Rattle.net_model.specs.declared.sorts.SortTerm.TheOpen as sort
+use Rattle.net_model.specs.declared.sorts.SortTerm.TheVariants as written
+use Rattle.net_model.specs.declared.sorts.NamedSort.{NamedSort}
+use Rattle.net_model.specs.declared.sorts.Member.{Member}
+use Rattle.net_model.specs.declared.sorts.Member.TheVariants as member
+use Rattle.net_model.specs.declared.sorts.Block.{Block}
+use Rattle.net_model.specs.declared.sorts.Partition.{Partition}
+use Rattle.net_model.specs.declared.terms.Term.{Term, fold-Term}
+use Rattle.net_model.specs.declared.terms.Term.TheOpen as term
+use Rattle.net_model.specs.declared.terms.Guard.{Guard, fold-Guard}
+use Rattle.net_model.specs.declared.terms.Guard.TheOpen as guard
+use Rattle.net_model.specs.declared.kinds.Kind.{Kind}
+use Rattle.net_model.specs.declared.kinds.Kind.TheVariants.{Pt, Symmetric}
 use Rattle.net_model.specs.declared.nets.Label.{Label}
 use Rattle.net_model.specs.declared.nets.Label.TheVariants as label
 use Rattle.net_model.specs.declared.nets.Place.{Place}
@@ -27,7 +26,10 @@ use Rattle.net_model.specs.declared.nets.Arc.{Arc}
 use Rattle.net_model.specs.declared.nets.Reference.{Reference}
 use Rattle.net_model.specs.declared.nets.VariableDecl.{VariableDecl}
 use Rattle.net_model.specs.declared.nets.Net.{Net}
-use Rattle.canon_laws.specs.Fitting.{Each, are_all, fits, span_fits}
+use Rattle.net_model.specs.Ids.{node_ids, symbol_ids}
+use Rattle.pnml_read.specs.Each.{Each, are_all}
+use Rattle.pnml_read.proofs.Distinct.{Differ}
+use Rattle.canon_laws.specs.Fitting.{fits, span_fits}
 
 abbrev pub some : {A : Type 0} → List A → Bool
 some parts = not (length parts == 0)
@@ -146,30 +148,6 @@ pub record ValuesAreSound (net : Net) : Type 0 where
   pub transitions : Each (TransitionIsSound net.kind) net.transitions
   pub references : list_all reference_sound net.references ≡ true
   pub arcs : Each (ArcIsSound net.kind) net.arcs
-
--- The ids, in the order of the canonical text: those of the nodes and those of the symbols.
-
-abbrev pub node_ids : Net → List (List ℕ)
-node_ids net =
-    map (λ p. p.id) net.places ++ map (λ t. t.id) net.transitions ++ map (λ r. r.id) net.references ++ map (λ a. a.id) net.arcs
-
-abbrev pub constants_by_parts : sort.SortTerm-F SortTerm → List (List ℕ)
-constants_by_parts (sort.Listed ids) = ids
-constants_by_parts (sort.Cyclic ids) = ids
-constants_by_parts _ = []
-
-abbrev pub sort_ids : NamedSort → List (List ℕ)
-sort_ids s = s.id ∷ constants_by_parts (out-SortTerm s.sort)
-
-abbrev pub partition_ids : Partition → List (List ℕ)
-partition_ids p = p.id ∷ map (λ b. b.id) p.elements
-
-abbrev pub symbol_ids : Net → List (List ℕ)
-symbol_ids net = flat_map sort_ids net.sorts ++ flat_map partition_ids net.partitions ++ map (λ v. v.id) net.variables
-
--- no id stands twice
-abbrev pub Differ : List (List ℕ) → Type 0
-Differ ids = (id : List ℕ) → count_by (bytes_eq id) ids < 2
 
 pub record NetIsSound (net : Net) : Type 0 where
   pub values : ValuesAreSound net

@@ -9,24 +9,25 @@ use Rattle.std.specs.List.{count_by, list_all}
 use Rattle.std.specs.Str.{bytes_eq}
 use Rattle.name_tables.specs.Grammar.{is_id_text}
 use Rattle.doc_model.specs.declared.tree.Attribute.{Attribute}
-use Rattle.colour_sorts.specs.declared.written.SortTerm.TheOpen as sort_layer
-use Rattle.colour_sorts.specs.declared.written.SortTerm.TheVariants as sort
-use Rattle.multiset_terms.specs.declared.terms.Order.{Order}
-use Rattle.multiset_terms.specs.declared.terms.Term.TheOpen as term_layer
-use Rattle.multiset_terms.specs.declared.terms.Term.TheVariants as term
-use Rattle.multiset_terms.specs.declared.terms.Guard.TheOpen as guard_layer
-use Rattle.multiset_terms.specs.declared.terms.Guard.TheVariants as guard
-use Rattle.net_elements.specs.declared.kinds.Kind.{Kind}
-use Rattle.net_elements.specs.declared.kinds.Kind.TheVariants.{Pt, Symmetric}
+use Rattle.net_model.specs.declared.sorts.SortTerm.TheOpen as sort_layer
+use Rattle.net_model.specs.declared.sorts.SortTerm.TheVariants as sort
+use Rattle.net_model.specs.declared.terms.Order.{Order}
+use Rattle.net_model.specs.declared.terms.Term.TheOpen as term_layer
+use Rattle.net_model.specs.declared.terms.Term.TheVariants as term
+use Rattle.net_model.specs.declared.terms.Guard.TheOpen as guard_layer
+use Rattle.net_model.specs.declared.terms.Guard.TheVariants as guard
+use Rattle.net_model.specs.declared.kinds.Kind.{Kind}
+use Rattle.net_model.specs.declared.kinds.Kind.TheVariants.{Pt, Symmetric}
 use Rattle.net_elements.specs.declared.roles.Role.{Role}
 use Rattle.net_elements.specs.declared.roles.Role.TheVariants as role
 use Rattle.net_elements.specs.Table.{guards, one_or_more, slots_of, sorts, terms, word_of}
 use Rattle.net_elements.specs.Rules.{has, is_missing, is_passed_over, role_named}
 use Rattle.pnml_read.specs.Nets.{Given, child, kept, nothing, signed, span_part, text_in}
-use Rattle.canon_laws.specs.Fitting.{Each, are_all, fits, span_fits}
-use Rattle.canon_laws.proofs.ReadRoles.{OneOf, any_of, roles_in}
+use Rattle.pnml_read.specs.Each.{Each, are_all}
+use Rattle.canon_laws.specs.Fitting.{fits, span_fits}
+use Rattle.pnml_read.proofs.ReadRoles.{OneOf, any_of, roles_in}
 use Rattle.canon_laws.proofs.Sound.{guard_sound, some, sort_sound, term_sound}
-use Rattle.canon_laws.proofs.Each.{all_map, all_maps, each_at, each_map, filter_has}
+use Rattle.pnml_read.proofs.Each.{all_map, all_maps, each_at, each_map, filter_has}
 use Rattle.canon_laws.proofs.SoundParts.{declared_from, guard_from, signed_fits, sort_from, term_from}
 use Rattle.canon_laws.proofs.SoundSeats.{GuardGiven, MemberGiven, NodesAreSound, NumbersFit, Seated, SortGiven, TakenIn, Takes, TermGiven, WholeSortGiven}
 

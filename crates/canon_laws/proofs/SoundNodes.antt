@@ -6,11 +6,11 @@ use Rattle.std.specs.List.{list_all}
 use Rattle.std.specs.Str.{bytes_eq}
 use Rattle.name_tables.specs.Grammar.{is_id_text}
 use Rattle.doc_model.specs.declared.tree.Attribute.{Attribute}
-use Rattle.colour_sorts.specs.declared.written.NamedSort.{NamedSort}
-use Rattle.colour_sorts.specs.declared.written.Partition.{Partition}
-use Rattle.colour_sorts.specs.declared.written.SortTerm.TheVariants as sort
-use Rattle.net_elements.specs.declared.kinds.Kind.{Kind}
-use Rattle.net_elements.specs.declared.kinds.Kind.TheVariants.{Pt, Symmetric}
+use Rattle.net_model.specs.declared.sorts.NamedSort.{NamedSort}
+use Rattle.net_model.specs.declared.sorts.Partition.{Partition}
+use Rattle.net_model.specs.declared.sorts.SortTerm.TheVariants as sort
+use Rattle.net_model.specs.declared.kinds.Kind.{Kind}
+use Rattle.net_model.specs.declared.kinds.Kind.TheVariants.{Pt, Symmetric}
 use Rattle.net_elements.specs.declared.roles.Role.{Role}
 use Rattle.net_elements.specs.declared.roles.Role.TheVariants as role
 use Rattle.net_elements.specs.Table.{sorts, word_of}
@@ -23,11 +23,11 @@ use Rattle.net_model.specs.declared.nets.VariableDecl.{VariableDecl}
 use Rattle.net_model.specs.declared.nets.RefKind.{RefKind}
 use Rattle.pnml_read.specs.declared.lists.Lists.{Lists}
 use Rattle.pnml_read.specs.Nets.{Given, both, child, guard_or_none, inscription_of, is_block, joined, kept, lists_in, marking_of, multiset_or_absent, named, no_lists, nothing, number_or, partition_of, sort_or_dot, text_in}
-use Rattle.canon_laws.specs.Fitting.{Each}
-use Rattle.canon_laws.proofs.Elements.{gives}
-use Rattle.canon_laws.proofs.ReadRoles.{OneOf, any_of}
+use Rattle.pnml_read.specs.Each.{Each}
+use Rattle.pnml_read.proofs.Elements.{gives}
+use Rattle.pnml_read.proofs.ReadRoles.{OneOf, any_of}
 use Rattle.canon_laws.proofs.Sound.{ArcIsSound, DeclaresFor, GuardIsSound, LabelIsSound, PlaceIsSound, SortIsSound, TransitionIsSound, block_sound, declared_sound, member_sound, named_sound, partition_sound, reference_sound, sort_sound, variable_sound}
-use Rattle.canon_laws.proofs.Each.{OfSome, all_both, all_map, each_append, each_at, each_map, filter_has, found_has}
+use Rattle.pnml_read.proofs.Each.{OfSome, all_both, all_map, each_append, each_at, each_map, filter_has, found_has}
 use Rattle.canon_laws.proofs.SoundParts.{declared_from}
 use Rattle.canon_laws.proofs.SoundSeats.{DeclaredIsSound, Facts, ListsAreSound, MemberGiven, NodesAreSound, Seated, SortGiven, TakenIn, Takes, TermGiven, WholeSortGiven}
 use Rattle.canon_laws.proofs.SoundChildren.{as_member, as_sort, as_whole_sort, child_has, each_kept, only, sort_child, sort_dot}

@@ -7,13 +7,13 @@ use Rattle.std.specs.List.{list_all}
 use Rattle.std.specs.Option.{option_map}
 use Rattle.std.specs.Prelude.{slice_index}
 use Rattle.name_tables.specs.Grammar.{decimal_value, is_id_text, magnitude_of, number_of}
-use Rattle.colour_sorts.specs.declared.written.SortTerm.{SortTerm, map-SortTerm, out-SortTerm, roll-SortTerm, fold-roll-SortTerm, fold_out-SortTerm, out-roll-SortTerm}
-use Rattle.colour_sorts.specs.declared.written.SortTerm.TheOpen as sort
-use Rattle.colour_sorts.specs.declared.written.SortTerm.TheVariants as written
-use Rattle.multiset_terms.specs.declared.terms.Term.{Term, map-Term, roll-Term, fold-roll-Term}
-use Rattle.multiset_terms.specs.declared.terms.Term.TheOpen as term
-use Rattle.multiset_terms.specs.declared.terms.Guard.{Guard, map-Guard, roll-Guard, fold-roll-Guard}
-use Rattle.multiset_terms.specs.declared.terms.Guard.TheOpen as guard
+use Rattle.net_model.specs.declared.sorts.SortTerm.{SortTerm, map-SortTerm, out-SortTerm, roll-SortTerm, fold-roll-SortTerm, fold_out-SortTerm, out-roll-SortTerm}
+use Rattle.net_model.specs.declared.sorts.SortTerm.TheOpen as sort
+use Rattle.net_model.specs.declared.sorts.SortTerm.TheVariants as written
+use Rattle.net_model.specs.declared.terms.Term.{Term, map-Term, roll-Term, fold-roll-Term}
+use Rattle.net_model.specs.declared.terms.Term.TheOpen as term
+use Rattle.net_model.specs.declared.terms.Guard.{Guard, map-Guard, roll-Guard, fold-roll-Guard}
+use Rattle.net_model.specs.declared.terms.Guard.TheOpen as guard
 use Rattle.pnml_read.specs.Nets.{or_zero, signed, unsigned}
 use Rattle.canon_laws.specs.Fitting.{fits}
 use Rattle.canon_laws.proofs.Sound.{declared_sound, declared_sound_by_parts, guard_sound, guard_sound_by_parts, sort_sound, sort_sound_by_parts, term_sound, term_sound_by_parts}

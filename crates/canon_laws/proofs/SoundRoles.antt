@@ -3,23 +3,23 @@ use Rattle.std.proofs.Common.{ℕ, List, map, codes, refl}
 use Rattle.std.proofs.lemmas.Bool.{and_from}
 use Rattle.name_tables.specs.Grammar.{is_id_text}
 use Rattle.doc_model.specs.declared.tree.Attribute.{Attribute}
-use Rattle.colour_sorts.specs.declared.written.SortTerm.TheOpen as sort_layer
-use Rattle.colour_sorts.specs.declared.written.SortTerm.TheVariants as sort
-use Rattle.multiset_terms.specs.declared.terms.Order.TheVariants as order
-use Rattle.multiset_terms.specs.declared.terms.Term.TheOpen as term_layer
-use Rattle.multiset_terms.specs.declared.terms.Term.TheVariants as term
-use Rattle.multiset_terms.specs.declared.terms.Guard.TheOpen as guard_layer
-use Rattle.multiset_terms.specs.declared.terms.Guard.TheVariants as guard
-use Rattle.net_elements.specs.declared.kinds.Kind.{Kind}
+use Rattle.net_model.specs.declared.sorts.SortTerm.TheOpen as sort_layer
+use Rattle.net_model.specs.declared.sorts.SortTerm.TheVariants as sort
+use Rattle.net_model.specs.declared.terms.Order.TheVariants as order
+use Rattle.net_model.specs.declared.terms.Term.TheOpen as term_layer
+use Rattle.net_model.specs.declared.terms.Term.TheVariants as term
+use Rattle.net_model.specs.declared.terms.Guard.TheOpen as guard_layer
+use Rattle.net_model.specs.declared.terms.Guard.TheVariants as guard
+use Rattle.net_model.specs.declared.kinds.Kind.{Kind}
 use Rattle.net_elements.specs.declared.roles.Role.{Role}
 use Rattle.net_elements.specs.declared.roles.Role.TheVariants as role
 use Rattle.net_elements.specs.Table.{word_of}
 use Rattle.net_elements.specs.Rules.{truth_of}
 use Rattle.net_model.specs.declared.nets.RefKind.TheVariants as stands_for
 use Rattle.pnml_read.specs.Nets.{Given, child, is_true, kept, signed, span_part, text_in}
-use Rattle.canon_laws.proofs.Elements.{gives}
+use Rattle.pnml_read.proofs.Elements.{gives}
 use Rattle.canon_laws.proofs.Sound.{guard_sound, sort_sound, term_sound}
-use Rattle.canon_laws.proofs.Each.{all_maps}
+use Rattle.pnml_read.proofs.Each.{all_maps}
 use Rattle.canon_laws.proofs.SoundParts.{cyclic_sound, guard_from, listed_sound, sort_from, term_from}
 use Rattle.canon_laws.proofs.SoundSeats.{Facts, RoleIsSound, SortGiven, Takes}
 use Rattle.canon_laws.proofs.SoundChildren.{all_guards, all_terms, as_guard, as_node, as_sort, as_term, compared_sound, constant_id, each_kept, guard_child, guard_constant, ids_in, multiple, number_or_subterm, one_part, one_subterm, only, parts_full, ranged, sort_child, sort_dot, span_is_small, term_child, term_dot, two_parts, two_subterms}

@@ -4,17 +4,18 @@ use Rattle.std.specs.Bool.{⊤}
 use Rattle.std.specs.List.{list_all}
 use Rattle.name_tables.specs.Grammar.{is_id_text}
 use Rattle.doc_model.specs.declared.tree.Attribute.{Attribute}
-use Rattle.net_elements.specs.declared.kinds.Kind.{Kind}
-use Rattle.net_elements.specs.declared.kinds.Kind.TheVariants.{Pt, Symmetric}
+use Rattle.net_model.specs.declared.kinds.Kind.{Kind}
+use Rattle.net_model.specs.declared.kinds.Kind.TheVariants.{Pt, Symmetric}
 use Rattle.net_elements.specs.declared.roles.Role.{Role}
 use Rattle.net_elements.specs.declared.roles.Role.TheVariants as role
 use Rattle.net_elements.specs.Table.{keys_of, slots_of}
 use Rattle.net_elements.specs.Rules.{is_missing, is_passed_over}
 use Rattle.pnml_read.specs.declared.lists.Lists.{Lists}
 use Rattle.pnml_read.specs.Nets.{Given}
-use Rattle.canon_laws.specs.Fitting.{Each, span_fits}
-use Rattle.canon_laws.proofs.Noted.{Passes}
-use Rattle.canon_laws.proofs.ReadRoles.{Here, OneOf, roles_in}
+use Rattle.pnml_read.specs.Each.{Each}
+use Rattle.canon_laws.specs.Fitting.{span_fits}
+use Rattle.pnml_read.proofs.Noted.{Passes}
+use Rattle.pnml_read.proofs.ReadRoles.{Here, OneOf, roles_in}
 use Rattle.canon_laws.proofs.Sound.{ArcIsSound, DeclaresFor, PlaceIsSound, TransitionIsSound, block_sound, declared_sound, guard_sound, member_sound, named_sound, partition_sound, reference_sound, sort_sound, term_sound, variable_sound}
 
 -- What elements are.

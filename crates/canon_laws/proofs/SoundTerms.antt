@@ -8,18 +8,19 @@ use Rattle.doc_tree.specs.Characters.{is_ascii, is_white}
 use Rattle.doc_tree.specs.Writable
 use Rattle.doc_tree.specs.Writable.{AreCharacters, AreWritable, IsWritable}
 use Rattle.name_tables.specs.Grammar.{is_id_text}
-use Rattle.colour_sorts.specs.declared.written.Span.{Span}
-use Rattle.colour_sorts.specs.declared.written.SortTerm.{SortTerm, map-SortTerm, out-SortTerm, fold-roll-SortTerm, fold_out-SortTerm}
-use Rattle.colour_sorts.specs.declared.written.SortTerm.TheOpen as sort
-use Rattle.multiset_terms.specs.declared.terms.Term.{Term, map-Term, fold-roll-Term}
-use Rattle.multiset_terms.specs.declared.terms.Term.TheOpen as term
-use Rattle.multiset_terms.specs.declared.terms.Guard.{Guard, map-Guard, fold-roll-Guard}
-use Rattle.multiset_terms.specs.declared.terms.Guard.TheOpen as guard
+use Rattle.net_model.specs.declared.sorts.Span.{Span}
+use Rattle.net_model.specs.declared.sorts.SortTerm.{SortTerm, map-SortTerm, out-SortTerm, fold-roll-SortTerm, fold_out-SortTerm}
+use Rattle.net_model.specs.declared.sorts.SortTerm.TheOpen as sort
+use Rattle.net_model.specs.declared.terms.Term.{Term, map-Term, fold-roll-Term}
+use Rattle.net_model.specs.declared.terms.Term.TheOpen as term
+use Rattle.net_model.specs.declared.terms.Guard.{Guard, map-Guard, fold-roll-Guard}
+use Rattle.net_model.specs.declared.terms.Guard.TheOpen as guard
 use Rattle.net_elements.specs.declared.roles.Key.TheVariants as key
 use Rattle.net_elements.specs.declared.roles.Role.TheVariants as role
 use Rattle.pnml_write.specs.Canon.{constant_tree, guard_by_parts, guard_part_tree, guard_tree, number_tree, operator_tree, order_role, part, range_constant_tree, range_tree, sort_by_parts, sort_tree, term_by_parts, term_tree, truth_text}
-use Rattle.canon_laws.specs.Fitting.{are_all, fits, guard_fits, guard_fits_by_parts, sort_fits, sort_fits_by_parts, span_fits, term_fits, term_fits_by_parts}
-use Rattle.canon_laws.proofs.Layers.{KnownGuard, KnownSort, KnownTerm, guard_by_layers, guard_in, plain_guard, plain_sort, plain_term, sort_by_layers, sort_in, term_by_layers, term_in}
+use Rattle.pnml_read.specs.Each.{are_all}
+use Rattle.canon_laws.specs.Fitting.{fits, guard_fits, guard_fits_by_parts, sort_fits, sort_fits_by_parts, span_fits, term_fits, term_fits_by_parts}
+use Rattle.net_model.proofs.Inductions.{KnownGuard, KnownSort, KnownTerm, guard_by_layers, guard_in, plain_guard, plain_sort, plain_term, sort_by_layers, sort_in, term_by_layers, term_in}
 use Rattle.canon_laws.proofs.Branches.{all_write, branch_writes, declared_attributes, holder_writes, key_is_name, no_children, one_attribute, one_child, two_attributes, two_children}
 use Rattle.canon_laws.proofs.Characters.{ascii_characters, decimal_characters, id_characters, signed_characters}
 use Rattle.canon_laws.proofs.Sound.{declared_sound, declared_sound_by_parts, guard_sound, guard_sound_by_parts, some, sort_sound, sort_sound_by_parts, term_sound, term_sound_by_parts}

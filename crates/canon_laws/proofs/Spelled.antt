@@ -10,7 +10,7 @@ use Rattle.doc_tree.proofs.Written.{written_is_spelled}
 use Rattle.doc_tree.specs.Documents.{Spells}
 use Rattle.doc_tree.specs.Writable
 use Rattle.doc_tree.specs.Writable.{AreSameTrees, IsSameTree, IsWritable}
-use Rattle.net_elements.specs.declared.kinds.Kind.TheVariants.{Pt}
+use Rattle.net_model.specs.declared.kinds.Kind.TheVariants.{Pt}
 use Rattle.net_elements.specs.Rules.{kind_from, value_of}
 use Rattle.net_model.specs.declared.nets.Net.{Net}
 use Rattle.pnml_read.specs.Nets.{Given, given, given_by_parts, net_in, net_of, net_with, text_in}

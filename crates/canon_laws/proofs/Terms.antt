@@ -2,10 +2,10 @@
 use Rattle.std.proofs.Common.{◌≡◌, ℕ, ◌<◌, ◌^◌, Bool, true, false, nat_lt, List, [], ◌∷◌, map, refl, ap, sym, ◌∙◌}
 use Rattle.std.proofs.lemmas.Bool.{and_parts, ltb-true}
 use Rattle.doc_model.specs.declared.tree.Element.{Element}
-use Rattle.colour_sorts.specs.declared.written.Span.{Span}
-use Rattle.multiset_terms.specs.declared.terms.Term.{Term, map-Term, out-Term, roll-Term, fold-roll-Term, fold_out-Term}
-use Rattle.multiset_terms.specs.declared.terms.Term.TheOpen as layer
-use Rattle.multiset_terms.specs.declared.terms.Term.TheVariants as term
+use Rattle.net_model.specs.declared.sorts.Span.{Span}
+use Rattle.net_model.specs.declared.terms.Term.{Term, map-Term, out-Term, roll-Term, fold-roll-Term, fold_out-Term}
+use Rattle.net_model.specs.declared.terms.Term.TheOpen as layer
+use Rattle.net_model.specs.declared.terms.Term.TheVariants as term
 use Rattle.net_elements.specs.declared.roles.Role.{Role}
 use Rattle.net_elements.specs.declared.roles.Role.TheVariants as role
 use Rattle.net_elements.specs.Rules.{is_aside, is_passed_over}
@@ -13,8 +13,9 @@ use Rattle.net_elements.specs.Table.{word_of}
 use Rattle.pnml_read.specs.Nets.{Given, child, given}
 use Rattle.pnml_write.specs.Canon.{number_tree, part, range_tree, sort_tree, term_by_parts, term_tree}
 use Rattle.canon_laws.specs.Fitting.{fits, span_fits, term_fits, term_fits_by_parts}
-use Rattle.canon_laws.proofs.Layers.{KnownTerm, plain_term, term_by_layers, term_in}
-use Rattle.canon_laws.proofs.Elements.{branch_gives, first_child, or_false, parts_back, second_child}
+use Rattle.net_model.proofs.Inductions.{KnownTerm, plain_term, term_by_layers, term_in}
+use Rattle.pnml_read.proofs.Elements.{first_child, or_false, second_child}
+use Rattle.canon_laws.proofs.Elements.{branch_gives, parts_back}
 use Rattle.canon_laws.proofs.Numbers.{signed_back, span_back, unsigned_back}
 use Rattle.canon_laws.proofs.Sorts.{sort_aside, sort_back}
 

@@ -11,7 +11,7 @@ use Rattle.doc_tree.specs.Characters.{is_white}
 use Rattle.name_tables.proofs.Numbers.{decimal_numerals}
 use Rattle.net_elements.specs.Rules.{trimmed, without_front}
 use Rattle.pnml_read.specs.Nets.{unsigned}
-use Rattle.canon_laws.proofs.Each.{all_both}
+use Rattle.pnml_read.proofs.Each.{all_both}
 use Rattle.canon_laws.proofs.Numbers.{unsigned_back}
 
 pub digit_is_dark : (c : ℕ) → is_ascii_digit c ≡ true → is_white c ≡ false

@@ -9,10 +9,10 @@ use Rattle.name_tables.specs.Grammar.{is_id_text}
 use Rattle.doc_model.specs.declared.tree.Element.{Element}
 use Rattle.doc_model.specs.Trees.{attribute}
 use Rattle.doc_tree.specs.declared.faults.Fault.TheVariants as fault
-use Rattle.colour_sorts.specs.declared.written.NamedSort.{NamedSort}
-use Rattle.colour_sorts.specs.declared.written.Partition.{Partition}
-use Rattle.net_elements.specs.declared.kinds.Kind.{Kind}
-use Rattle.net_elements.specs.declared.kinds.Kind.TheVariants.{Pt, Symmetric}
+use Rattle.net_model.specs.declared.sorts.NamedSort.{NamedSort}
+use Rattle.net_model.specs.declared.sorts.Partition.{Partition}
+use Rattle.net_model.specs.declared.kinds.Kind.{Kind}
+use Rattle.net_model.specs.declared.kinds.Kind.TheVariants.{Pt, Symmetric}
 use Rattle.net_elements.specs.declared.roles.Key.TheVariants as key
 use Rattle.net_elements.specs.declared.roles.Role.{Role}
 use Rattle.net_elements.specs.declared.roles.Role.TheVariants as role
@@ -24,12 +24,13 @@ use Rattle.net_model.specs.declared.nets.RefKind.TheVariants as stands_for
 use Rattle.net_model.specs.declared.nets.VariableDecl.{VariableDecl}
 use Rattle.net_model.specs.declared.nets.Net.{Net}
 use Rattle.pnml_write.specs.Canon.{arc_tree, attribute_id, declaration_trees, declared_trees, holder, kind_text, named_sort_tree, net_tree, node_trees, page_tree, partition_tree, place_tree, reference_role, reference_tree, transition_tree, tree_of, variable_tree}
-use Rattle.canon_laws.specs.Fitting.{Each}
+use Rattle.pnml_read.specs.Each.{Each}
 use Rattle.canon_laws.proofs.Apart.{ids_apart}
-use Rattle.canon_laws.proofs.Each.{each_map, each_passes}
+use Rattle.pnml_read.proofs.Each.{each_map, each_passes}
 pub use Rattle.canon_laws.proofs.Offsets.{rules_same}
 use Rattle.canon_laws.proofs.Nodes.{kind_back}
-use Rattle.canon_laws.proofs.Sound.{DeclaresFor, NetIsSound, ValuesAreSound, node_ids, partition_ids, sort_ids, symbol_ids}
+use Rattle.net_model.specs.Ids.{node_ids, partition_symbols, sort_symbols, symbol_ids}
+use Rattle.canon_laws.proofs.Sound.{DeclaresFor, NetIsSound, ValuesAreSound}
 use Rattle.canon_laws.proofs.Walked.{Free, Reads, any_ends, branch_reads, child_reads, free_join, free_more, key_is_declared, one_reads}
 use Rattle.canon_laws.proofs.WalkedNodes.{arc_reads, free_ids, named_sort_reads, partition_reads, place_reads, reference_reads, transition_reads, variable_reads}
 
@@ -117,11 +118,11 @@ declared_read net are =
     let ss = map named_sort_tree net.sorts in
     let ps = map partition_tree net.partitions in
     join_ids net.kind role.Declarations (symbol 0) (ss ++ ps) (map variable_tree net.variables)
-    (flat_map sort_ids net.sorts ++ flat_map partition_ids net.partitions) (map (λ v. v.id) net.variables)
-    (join_ids net.kind role.Declarations (symbol 0) ss ps (flat_map sort_ids net.sorts) (flat_map partition_ids net.partitions)
-    (free_ids net.kind role.Declarations (symbol 0) (λ _. role.NamedSort) named_sort_tree sort_ids (λ _ earlier. refl) net.sorts
+    (flat_map sort_symbols net.sorts ++ flat_map partition_symbols net.partitions) (map (λ v. v.id) net.variables)
+    (join_ids net.kind role.Declarations (symbol 0) ss ps (flat_map sort_symbols net.sorts) (flat_map partition_symbols net.partitions)
+    (free_ids net.kind role.Declarations (symbol 0) (λ _. role.NamedSort) named_sort_tree sort_symbols (λ _ earlier. refl) net.sorts
     (each_passes _ _ (named_sort_reads net.kind) net.sorts are.sorts))
-    (free_ids net.kind role.Declarations (symbol 0) (λ _. role.Partition) partition_tree partition_ids (λ _ earlier. refl) net.partitions
+    (free_ids net.kind role.Declarations (symbol 0) (λ _. role.Partition) partition_tree partition_symbols (λ _ earlier. refl) net.partitions
     (each_passes _ _ (partition_reads net.kind) net.partitions are.partitions)))
     (free_named net.kind role.Declarations (symbol 0) (λ _. role.VariableDecl) variable_tree (λ v. v.id) (λ _ earlier. refl) net.variables
     (each_passes _ _ (variable_reads net.kind) net.variables are.variables))

@@ -6,8 +6,8 @@ use Rattle.std.specs.Str.{bytes_eq}
 use Rattle.name_tables.specs.Grammar.{is_id_text}
 use Rattle.doc_model.specs.declared.tree.Attribute.{Attribute}
 use Rattle.doc_model.specs.declared.tree.Element.{Element, out-Element}
-use Rattle.net_elements.specs.declared.kinds.Kind.{Kind}
-use Rattle.net_elements.specs.declared.kinds.Kind.TheVariants.{Pt}
+use Rattle.net_model.specs.declared.kinds.Kind.{Kind}
+use Rattle.net_model.specs.declared.kinds.Kind.TheVariants.{Pt}
 use Rattle.net_elements.specs.declared.roles.Role.{Role}
 use Rattle.net_elements.specs.declared.roles.Role.TheVariants as role
 use Rattle.net_elements.specs.Table.{keys_of, slots_of, word_of}
@@ -16,12 +16,12 @@ use Rattle.net_elements.specs.Walking.{name_of}
 use Rattle.net_elements.proofs.Walks.{walk_name}
 use Rattle.pnml_read.specs.declared.lists.Lists.{Lists}
 use Rattle.pnml_read.specs.Nets.{Given, given, list_roles, lists_in, lists_part, net_in, net_of, net_with, number_part, number_roles, text_in}
-use Rattle.canon_laws.specs.Fitting.{Each}
-use Rattle.canon_laws.proofs.Each.{each_map, each_of, each_over}
-use Rattle.canon_laws.proofs.Elements.{given_names, given_parts, given_walked, gives}
-use Rattle.canon_laws.proofs.Noted.{are_fine, fine_from, keys_pass, root_notes}
-use Rattle.canon_laws.proofs.ReadRoles.{Here, IsRead, children_read, fine_has_all, one_map, roles_in}
-use Rattle.canon_laws.proofs.Weights.{by_children, notes_parts}
+use Rattle.pnml_read.specs.Each.{Each}
+use Rattle.pnml_read.proofs.Each.{each_map, each_of, each_over}
+use Rattle.pnml_read.proofs.Elements.{given_names, given_parts, given_walked, gives}
+use Rattle.pnml_read.proofs.Noted.{are_fine, fine_from, keys_pass, root_notes}
+use Rattle.pnml_read.proofs.ReadRoles.{Here, IsRead, children_read, fine_has_all, one_map, roles_in}
+use Rattle.pnml_read.proofs.Weights.{by_children, notes_parts}
 use Rattle.canon_laws.proofs.Sound.{ValuesAreSound}
 use Rattle.canon_laws.proofs.SoundParts.{unsigned_fits}
 use Rattle.canon_laws.proofs.SoundSeats.{Facts, ListsAreSound, NumbersFit, RoleIsSound, Seated, Takes}

@@ -9,7 +9,7 @@ use Rattle.doc_model.specs.declared.tree.Attribute.{Attribute}
 use Rattle.doc_model.specs.declared.tree.Element.{Element, fold-roll-Element}
 use Rattle.doc_model.specs.Trees.{element, element_at}
 use Rattle.doc_tree.specs.declared.faults.Fault.TheVariants as fault
-use Rattle.net_elements.specs.declared.kinds.Kind.{Kind}
+use Rattle.net_model.specs.declared.kinds.Kind.{Kind}
 use Rattle.net_elements.specs.declared.roles.Key.{Key}
 use Rattle.net_elements.specs.declared.roles.Role.{Role}
 use Rattle.net_elements.specs.declared.seats.Seat.TheVariants.{PassedOver, Read}

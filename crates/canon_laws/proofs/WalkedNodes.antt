@@ -10,16 +10,16 @@ use Rattle.doc_model.specs.declared.tree.Attribute.{Attribute}
 use Rattle.doc_model.specs.declared.tree.Element.{Element}
 use Rattle.doc_model.specs.Trees.{attribute, element}
 use Rattle.doc_tree.specs.declared.faults.Fault.TheVariants as fault
-use Rattle.colour_sorts.specs.declared.written.SortTerm.{SortTerm, out-SortTerm}
-use Rattle.colour_sorts.specs.declared.written.NamedSort.{NamedSort}
-use Rattle.colour_sorts.specs.declared.written.Member.{Member}
-use Rattle.colour_sorts.specs.declared.written.Member.TheVariants as member
-use Rattle.colour_sorts.specs.declared.written.Block.{Block}
-use Rattle.colour_sorts.specs.declared.written.Partition.{Partition}
-use Rattle.multiset_terms.specs.declared.terms.Term.{Term}
-use Rattle.multiset_terms.specs.declared.terms.Guard.{Guard}
-use Rattle.net_elements.specs.declared.kinds.Kind.{Kind}
-use Rattle.net_elements.specs.declared.kinds.Kind.TheVariants.{Pt, Symmetric}
+use Rattle.net_model.specs.declared.sorts.SortTerm.{SortTerm, out-SortTerm}
+use Rattle.net_model.specs.declared.sorts.NamedSort.{NamedSort}
+use Rattle.net_model.specs.declared.sorts.Member.{Member}
+use Rattle.net_model.specs.declared.sorts.Member.TheVariants as member
+use Rattle.net_model.specs.declared.sorts.Block.{Block}
+use Rattle.net_model.specs.declared.sorts.Partition.{Partition}
+use Rattle.net_model.specs.declared.terms.Term.{Term}
+use Rattle.net_model.specs.declared.terms.Guard.{Guard}
+use Rattle.net_model.specs.declared.kinds.Kind.{Kind}
+use Rattle.net_model.specs.declared.kinds.Kind.TheVariants.{Pt, Symmetric}
 use Rattle.net_elements.specs.declared.roles.Key.TheVariants as key
 use Rattle.net_elements.specs.declared.roles.Role.{Role}
 use Rattle.net_elements.specs.declared.roles.Role.TheVariants as role
@@ -36,9 +36,10 @@ use Rattle.net_model.specs.declared.nets.RefKind.TheVariants as stands_for
 use Rattle.net_model.specs.declared.nets.Reference.{Reference}
 use Rattle.net_model.specs.declared.nets.VariableDecl.{VariableDecl}
 use Rattle.pnml_write.specs.Canon.{arc_tree, attribute_id, block_tree, branch, condition_trees, declared_id, guard_tree, holder, label_trees, leaf_with, member_tree, named_sort_tree, partition_tree, place_tree, reference_role, reference_tree, sort_tree, term_label, term_tree, text_label, transition_tree, type_trees, variable_tree}
-use Rattle.canon_laws.specs.Fitting.{Each}
-use Rattle.canon_laws.proofs.Elements.{or_false}
-use Rattle.canon_laws.proofs.Sound.{ArcIsSound, GuardIsSound, LabelIsSound, PlaceIsSound, SortIsSound, TransitionIsSound, block_sound, constants_by_parts, declared_sound, guard_sound, member_sound, named_sound, partition_ids, partition_sound, reference_sound, sort_ids, sort_sound, term_sound, variable_sound}
+use Rattle.pnml_read.specs.Each.{Each}
+use Rattle.pnml_read.proofs.Elements.{or_false}
+use Rattle.net_model.specs.Ids.{constants_in_layer, partition_symbols, sort_symbols}
+use Rattle.canon_laws.proofs.Sound.{ArcIsSound, GuardIsSound, LabelIsSound, PlaceIsSound, SortIsSound, TransitionIsSound, block_sound, declared_sound, guard_sound, member_sound, named_sound, partition_sound, reference_sound, sort_sound, term_sound, variable_sound}
 use Rattle.canon_laws.proofs.Texts.{trimmed_decimal}
 use Rattle.canon_laws.proofs.Walked.{Free, Reads, any_ends, branch_reads, child_reads, ends_well, free_more, key_is_declared, any_may_miss, one_met, one_reads, only_reads, seat_by, text_reads}
 use Rattle.canon_laws.proofs.WalkedSorts.{declared_notes, declared_reads, declared_roles, sort_reads}
@@ -172,9 +173,9 @@ arc_reads kind a (named, from, to, label_is) = by kind a.label label_is
         (term_label_reads Symmetric role.HlInscription t is refl refl refl refl)
 
 -- what is declared
-pub named_sort_reads : (kind : Kind) (s : NamedSort) → named_sound s ≡ true → Reads kind role.NamedSort (walk_of (named_sort_tree s)) (map (symbol 0) (sort_ids s))
+pub named_sort_reads : (kind : Kind) (s : NamedSort) → named_sound s ≡ true → Reads kind role.NamedSort (walk_of (named_sort_tree s)) (map (symbol 0) (sort_symbols s))
 named_sort_reads kind s h =
-    only_reads kind role.NamedSort declared_roles (declared_id s.id) (sort_tree s.sort) (symbol 0 s.id ∷ []) (map (symbol 0) (constants_by_parts (out-SortTerm s.sort)))
+    only_reads kind role.NamedSort declared_roles (declared_id s.id) (sort_tree s.sort) (symbol 0 s.id ∷ []) (map (symbol 0) (constants_in_layer (out-SortTerm s.sort)))
     refl refl (λ name. or_false (is_aside name)) refl (declared_notes s.id (and_parts (is_id_text s.id) (declared_sound s.sort) h).0)
     (declared_reads kind s.sort (and_parts (is_id_text s.id) (declared_sound s.sort) h).1)
 
@@ -212,7 +213,7 @@ blocks_read kind (b ∷ bs) h =
     (block_reads kind b (and_parts (block_sound b) (list_all block_sound bs) h).0))
     (blocks_read kind bs (and_parts (block_sound b) (list_all block_sound bs) h).1)
 
-pub partition_reads : (kind : Kind) (p : Partition) → partition_sound p ≡ true → Reads kind role.Partition (walk_of (partition_tree p)) (map (symbol 0) (partition_ids p))
+pub partition_reads : (kind : Kind) (p : Partition) → partition_sound p ≡ true → Reads kind role.Partition (walk_of (partition_tree p)) (map (symbol 0) (partition_symbols p))
 partition_reads kind p h =
     let named = (and_parts (is_id_text p.id) (sort_sound p.sort) (and_parts (is_id_text p.id && sort_sound p.sort) (list_all block_sound p.elements) h).0).0 in
     let first = sort_reads kind p.sort (and_parts (is_id_text p.id) (sort_sound p.sort) (and_parts (is_id_text p.id && sort_sound p.sort) (list_all block_sound p.elements) h).0).1 in

@@ -8,10 +8,10 @@ use Rattle.name_tables.specs.Grammar.{is_id_text, number_of}
 use Rattle.doc_model.specs.declared.tree.Attribute.{Attribute}
 use Rattle.doc_model.specs.declared.tree.Element.{Element}
 use Rattle.doc_model.specs.Trees.{attribute}
-use Rattle.colour_sorts.specs.declared.written.Span.{Span}
-use Rattle.colour_sorts.specs.declared.written.SortTerm.{SortTerm, map-SortTerm, out-SortTerm, fold-roll-SortTerm, fold_out-SortTerm}
-use Rattle.colour_sorts.specs.declared.written.SortTerm.TheOpen as layer
-use Rattle.net_elements.specs.declared.kinds.Kind.{Kind}
+use Rattle.net_model.specs.declared.sorts.Span.{Span}
+use Rattle.net_model.specs.declared.sorts.SortTerm.{SortTerm, map-SortTerm, out-SortTerm, fold-roll-SortTerm, fold_out-SortTerm}
+use Rattle.net_model.specs.declared.sorts.SortTerm.TheOpen as layer
+use Rattle.net_model.specs.declared.kinds.Kind.{Kind}
 use Rattle.net_elements.specs.declared.roles.Key.{Key}
 use Rattle.net_elements.specs.declared.roles.Key.TheVariants as key
 use Rattle.net_elements.specs.declared.roles.Role.{Role}
@@ -20,10 +20,12 @@ use Rattle.net_elements.specs.declared.seats.Seat.TheVariants.{Read}
 use Rattle.net_elements.specs.Rules.{attribute_notes, children_notes, end_notes, has, is_aside, is_bad_text, kind_within, passes, seat_of, symbol, walk_of}
 use Rattle.net_elements.specs.Table.{keys_of, any, slots_of, sorts, word_of}
 use Rattle.pnml_write.specs.Canon.{branch, constant_tree, declared_id, range_tree, sort_by_parts, sort_tree}
-use Rattle.canon_laws.specs.Fitting.{are_all, fits, span_fits}
-use Rattle.canon_laws.proofs.Layers.{KnownSort, plain_sort, sort_by_layers, sort_in}
-use Rattle.canon_laws.proofs.Elements.{or_false}
-use Rattle.canon_laws.proofs.Sound.{constants_by_parts, declared_sound, declared_sound_by_parts, sort_sound, sort_sound_by_parts}
+use Rattle.pnml_read.specs.Each.{are_all}
+use Rattle.canon_laws.specs.Fitting.{fits, span_fits}
+use Rattle.net_model.proofs.Inductions.{KnownSort, plain_sort, sort_by_layers, sort_in}
+use Rattle.pnml_read.proofs.Elements.{or_false}
+use Rattle.net_model.specs.Ids.{constants_in_layer}
+use Rattle.canon_laws.proofs.Sound.{declared_sound, declared_sound_by_parts, sort_sound, sort_sound_by_parts}
 use Rattle.canon_laws.proofs.Walked.{Free, Reads, ReadsAmong, among_more, any_ends, any_reads, branch_reads, child_reads, free_more, key_is_declared}
 
 -- attributes: an id of a symbol, and numbers
@@ -110,11 +112,11 @@ enumeration_reads kind r ids slots good same own seat h =
     (ap (λ k. end_notes (slots_of k r) r 0 (map (λ w. w.name) (map walk_of (map constant_tree ids))) []) same ∙ any_ends kind r ((role.FeConstant ∷ []) ∷ []) (map constant_tree ids) slots good)
 
 pub declared_reads : (kind : Kind) (s : SortTerm) → declared_sound s ≡ true
-    → ReadsAmong kind declared_roles (walk_of (sort_tree s)) (map (symbol 0) (constants_by_parts (out-SortTerm s)))
+    → ReadsAmong kind declared_roles (walk_of (sort_tree s)) (map (symbol 0) (constants_in_layer (out-SortTerm s)))
 declared_reads kind s h = by (out-SortTerm s) h (fold_out-SortTerm Element sort_by_parts s)
   where
     by : (y : layer.SortTerm-F SortTerm) → declared_sound_by_parts y (sort_sound s) ≡ true → sort_tree s ≡ sort_by_parts (map-SortTerm SortTerm Element sort_tree y)
-        → ReadsAmong kind declared_roles (walk_of (sort_tree s)) (map (symbol 0) (constants_by_parts y))
+        → ReadsAmong kind declared_roles (walk_of (sort_tree s)) (map (symbol 0) (constants_in_layer y))
     by layer.Dot h is = among_more kind sorts _ (walk_of (sort_tree s)) [] (sort_reads kind s h)
     by (layer.Named id) h is = among_more kind sorts _ (walk_of (sort_tree s)) [] (sort_reads kind s h)
     by (layer.Product parts) h is = among_more kind sorts _ (walk_of (sort_tree s)) [] (sort_reads kind s h)

@@ -7,14 +7,14 @@ use Rattle.name_tables.specs.Grammar.{is_id_text}
 use Rattle.doc_model.specs.declared.tree.Element.{Element}
 use Rattle.doc_model.specs.declared.tree.Attribute.{Attribute}
 use Rattle.doc_model.specs.Trees.{attribute}
-use Rattle.colour_sorts.specs.declared.written.Span.{Span}
-use Rattle.multiset_terms.specs.declared.terms.Order.{Order}
-use Rattle.multiset_terms.specs.declared.terms.Order.TheVariants as order
-use Rattle.multiset_terms.specs.declared.terms.Term.{Term, map-Term, fold-roll-Term}
-use Rattle.multiset_terms.specs.declared.terms.Term.TheOpen as layer
-use Rattle.multiset_terms.specs.declared.terms.Guard.{Guard, map-Guard, fold-roll-Guard}
-use Rattle.multiset_terms.specs.declared.terms.Guard.TheOpen as open_guard
-use Rattle.net_elements.specs.declared.kinds.Kind.{Kind}
+use Rattle.net_model.specs.declared.sorts.Span.{Span}
+use Rattle.net_model.specs.declared.terms.Order.{Order}
+use Rattle.net_model.specs.declared.terms.Order.TheVariants as order
+use Rattle.net_model.specs.declared.terms.Term.{Term, map-Term, fold-roll-Term}
+use Rattle.net_model.specs.declared.terms.Term.TheOpen as layer
+use Rattle.net_model.specs.declared.terms.Guard.{Guard, map-Guard, fold-roll-Guard}
+use Rattle.net_model.specs.declared.terms.Guard.TheOpen as open_guard
+use Rattle.net_model.specs.declared.kinds.Kind.{Kind}
 use Rattle.net_elements.specs.declared.roles.Key.TheVariants as key
 use Rattle.net_elements.specs.declared.roles.Role.{Role}
 use Rattle.net_elements.specs.declared.roles.Role.TheVariants as role
@@ -22,9 +22,10 @@ use Rattle.net_elements.specs.declared.seats.Seat.TheVariants.{Read}
 use Rattle.net_elements.specs.Rules.{Note, attribute_notes, child_notes, children_notes, end_notes, has, is_aside, is_bad_text, is_in, is_missing, kind_within, passes, seat_of, walk_of}
 use Rattle.net_elements.specs.Table.{guards, keys_of, one_or_more, slots_of, sorts, terms, word_of}
 use Rattle.pnml_write.specs.Canon.{branch, guard_by_parts, guard_part_tree, guard_tree, holder, number_tree, operator_tree, order_role, part, range_constant_tree, range_tree, sort_tree, term_by_parts, term_tree, truth_text}
-use Rattle.canon_laws.specs.Fitting.{Each, are_all, fits, span_fits}
-use Rattle.canon_laws.proofs.Layers.{KnownGuard, KnownTerm, guard_by_layers, plain_guard, plain_term, term_by_layers}
-use Rattle.canon_laws.proofs.Elements.{or_false}
+use Rattle.pnml_read.specs.Each.{Each, are_all}
+use Rattle.canon_laws.specs.Fitting.{fits, span_fits}
+use Rattle.net_model.proofs.Inductions.{KnownGuard, KnownTerm, guard_by_layers, plain_guard, plain_term, term_by_layers}
+use Rattle.pnml_read.proofs.Elements.{or_false}
 use Rattle.canon_laws.proofs.Sound.{guard_sound, guard_sound_by_parts, some, term_sound, term_sound_by_parts}
 use Rattle.canon_laws.proofs.Walked.{Free, Reads, ReadsAmong, branch_reads, child_reads, ends_well, free_more, key_is_declared, one_met, one_reads, only_reads}
 use Rattle.canon_laws.proofs.WalkedSorts.{range_reads, signed_passes, sort_reads}

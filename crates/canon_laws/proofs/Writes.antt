@@ -9,15 +9,15 @@ use Rattle.doc_tree.specs.Characters.{is_ascii, is_name_byte, is_name_start, is_
 use Rattle.doc_tree.specs.Writable
 use Rattle.doc_tree.specs.Writable.{AreCharacters, AreWritable, IsWritable}
 use Rattle.name_tables.specs.Grammar.{is_id_text}
-use Rattle.colour_sorts.specs.declared.written.SortTerm.{SortTerm}
-use Rattle.colour_sorts.specs.declared.written.NamedSort.{NamedSort}
-use Rattle.colour_sorts.specs.declared.written.Member.{Member}
-use Rattle.colour_sorts.specs.declared.written.Member.TheVariants as member
-use Rattle.colour_sorts.specs.declared.written.Block.{Block}
-use Rattle.colour_sorts.specs.declared.written.Partition.{Partition}
-use Rattle.multiset_terms.specs.declared.terms.Guard.{Guard}
-use Rattle.net_elements.specs.declared.kinds.Kind.{Kind}
-use Rattle.net_elements.specs.declared.kinds.Kind.TheVariants.{Pt, Symmetric}
+use Rattle.net_model.specs.declared.sorts.SortTerm.{SortTerm}
+use Rattle.net_model.specs.declared.sorts.NamedSort.{NamedSort}
+use Rattle.net_model.specs.declared.sorts.Member.{Member}
+use Rattle.net_model.specs.declared.sorts.Member.TheVariants as member
+use Rattle.net_model.specs.declared.sorts.Block.{Block}
+use Rattle.net_model.specs.declared.sorts.Partition.{Partition}
+use Rattle.net_model.specs.declared.terms.Guard.{Guard}
+use Rattle.net_model.specs.declared.kinds.Kind.{Kind}
+use Rattle.net_model.specs.declared.kinds.Kind.TheVariants.{Pt, Symmetric}
 use Rattle.net_elements.specs.declared.roles.Key.TheVariants as key
 use Rattle.net_elements.specs.declared.roles.Role.{Role}
 use Rattle.net_elements.specs.declared.roles.Role.TheVariants as role
@@ -31,7 +31,7 @@ use Rattle.net_model.specs.declared.nets.VariableDecl.{VariableDecl}
 use Rattle.net_model.specs.declared.nets.Net.{Net}
 use Rattle.pnml_write.specs.Canon.{arc_tree, block_tree, condition_trees, declaration_trees, declared_trees, kind_text, label_trees, member_tree, named_sort_tree, net_tree, node_trees, page_tree, partition_tree, place_tree, reference_role, reference_tree, text_label, transition_tree, tree_of, type_trees, variable_tree}
 use Rattle.canon_laws.specs.Fitting.{GuardFits, LabelFits, NetFits, SortFits, block_fits, member_fits, partition_fits, sort_fits}
-use Rattle.canon_laws.proofs.Each.{each_map}
+use Rattle.pnml_read.proofs.Each.{each_map}
 use Rattle.canon_laws.proofs.Branches.{all_write, appended, branch_writes, declared_attributes, digits_write, each_writes, holder_writes, id_attribute, key_is_name, no_children, one_attribute, one_child, two_attributes}
 use Rattle.canon_laws.proofs.Characters.{all_pass, ascii_characters, ascii_name, decimal_digits, id_characters, is_ascii_name}
 use Rattle.canon_laws.proofs.Sound.{ArcIsSound, GuardIsSound, LabelIsSound, PlaceIsSound, SortIsSound, TransitionIsSound, ValuesAreSound, block_sound, declared_sound, member_sound, named_sound, partition_sound, reference_sound, sort_sound, variable_sound}

@@ -2,31 +2,24 @@
 use Rattle.std.specs.Prelude.{◌≡◌, ◌<◌, ◌^◌, ℤ, unsigned_abs, nat_lt, Bool, true, ◌&&◌, List, [], ◌∷◌, Option, None, Some}
 use Rattle.std.specs.Bool.{⊤}
 use Rattle.std.specs.List.{list_all}
-use Rattle.colour_sorts.specs.declared.written.Span.{Span}
-use Rattle.colour_sorts.specs.declared.written.SortTerm.{SortTerm, fold-SortTerm}
-use Rattle.colour_sorts.specs.declared.written.SortTerm.TheOpen as sort
-use Rattle.colour_sorts.specs.declared.written.SortTerm.TheVariants as written
-use Rattle.colour_sorts.specs.declared.written.Member.{Member}
-use Rattle.colour_sorts.specs.declared.written.Member.TheVariants as member
-use Rattle.colour_sorts.specs.declared.written.Block.{Block}
-use Rattle.colour_sorts.specs.declared.written.Partition.{Partition}
-use Rattle.multiset_terms.specs.declared.terms.Term.{Term, fold-Term}
-use Rattle.multiset_terms.specs.declared.terms.Term.TheOpen as term
-use Rattle.multiset_terms.specs.declared.terms.Guard.{Guard, fold-Guard}
-use Rattle.multiset_terms.specs.declared.terms.Guard.TheOpen as guard
-use Rattle.net_elements.specs.declared.kinds.Kind.{Kind}
-use Rattle.net_elements.specs.declared.kinds.Kind.TheVariants.{Pt, Symmetric}
+use Rattle.net_model.specs.declared.sorts.Span.{Span}
+use Rattle.net_model.specs.declared.sorts.SortTerm.{SortTerm, fold-SortTerm}
+use Rattle.net_model.specs.declared.sorts.SortTerm.TheOpen as sort
+use Rattle.net_model.specs.declared.sorts.SortTerm.TheVariants as written
+use Rattle.net_model.specs.declared.sorts.Member.{Member}
+use Rattle.net_model.specs.declared.sorts.Member.TheVariants as member
+use Rattle.net_model.specs.declared.sorts.Block.{Block}
+use Rattle.net_model.specs.declared.sorts.Partition.{Partition}
+use Rattle.net_model.specs.declared.terms.Term.{Term, fold-Term}
+use Rattle.net_model.specs.declared.terms.Term.TheOpen as term
+use Rattle.net_model.specs.declared.terms.Guard.{Guard, fold-Guard}
+use Rattle.net_model.specs.declared.terms.Guard.TheOpen as guard
+use Rattle.net_model.specs.declared.kinds.Kind.{Kind}
+use Rattle.net_model.specs.declared.kinds.Kind.TheVariants.{Pt, Symmetric}
 use Rattle.net_model.specs.declared.nets.Label.{Label}
 use Rattle.net_model.specs.declared.nets.Label.TheVariants as label
 use Rattle.net_model.specs.declared.nets.Net.{Net}
-
-abbrev pub are_all : List Bool → Bool
-are_all tests = list_all (λ b. b) tests
-
--- each element of a list
-abbrev pub Each : {A : Type 0} → (A → Type 0) → List A → Type 0
-Each P [] = ⊤
-Each P (x ∷ xs) = P x × Each P xs
+use Rattle.pnml_read.specs.Each.{Each, are_all}
 
 -- numbers
 abbrev pub fits : ℤ → Bool

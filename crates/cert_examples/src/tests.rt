@@ -1,5 +1,6 @@
 use cert_reader::{
-    Cert, CertFault, CertReader, FactKind, Multiplier, NodeForm, Weight, read_cert, write_cert,
+    Cert, CertFault, CertReader, FactKind, Multiplier, NodeForm, Weight, read_cert, read_factor,
+    read_instance, read_place, write_cert,
 };
 use std::test::Fail;
 
@@ -339,6 +340,19 @@ fn nodes_and_their_faults(rt: HostRuntime) -> Result<(), Fail> {
 }
 
 #[test]
+fn repeated_steps_large_sums_and_a_missing_tree(rt: HostRuntime) -> Result<(), Fail> {
+    let step_twice: &[u8] =
+        b"certificate 1\nproperty P\nbound g -1 -1*p\nstep t@0 1 0\nstep t@0 1 0\nproof\nclose 1*@1 1*g\nend\n";
+    assert!(rt; fault_of(&rt, step_twice) == Some(CertFault::Repeated { number: 5 }));
+    let large_sum: &[u8] =
+        b"certificate 1\nproperty P\nflow f 9223372036854775807*p0 1*p0\nproof\nclose 1*@1 -1*f\nend\n";
+    assert!(rt; fault_of(&rt, large_sum) == Some(CertFault::Coefficient { number: 3 }));
+    let cut: &[u8] = b"certificate 1\nproperty P\nflow f 1*p0 1*p1\nproof\n";
+    assert!(rt; fault_of(&rt, cut) == Some(CertFault::Line { number: 5 }));
+    Ok(())
+}
+
+#[test]
 fn whole_texts(rt: HostRuntime) -> Result<(), Fail> {
     let first = [
         b"".as_slice(),
@@ -523,5 +537,77 @@ fn the_nodes_of_a_tree(rt: HostRuntime) -> Result<(), Fail> {
         fault_of(&rt, larger.as_slice()),
         Some(CertFault::CertLimit { number: 1_048_580 })
     );
+    Ok(())
+}
+
+#[test]
+fn transition_instances(rt: HostRuntime) -> Result<(), Fail> {
+    let words = [
+        (b"t@0".as_slice(), 0),
+        (b"t@00", 0),
+        (b"t@4294967295", 4_294_967_295),
+    ];
+    for (word, binding) in words {
+        let instance = read_instance(rt.alloc(), word)?;
+        assert!(rt;
+            matches!(&instance, Some(i) if i.transition.bytes() == b"t".as_slice() && i.binding == binding)
+        );
+    }
+    let others = [
+        b"".as_slice(),
+        b"t",
+        b"t@",
+        b"@0",
+        b"t@-0",
+        b"t@4294967296",
+        b"t@0@0",
+        b"1*t@0",
+        b"t@0 ",
+    ];
+    for word in others {
+        assert!(rt; read_instance(rt.alloc(), word)?.is_none());
+    }
+    Ok(())
+}
+
+#[test]
+fn places_and_colours(rt: HostRuntime) -> Result<(), Fail> {
+    let whole = read_place(rt.alloc(), b"p0")?;
+    assert!(rt;
+        matches!(&whole, Some(p) if p.place.bytes() == b"p0".as_slice() && p.colour.is_none())
+    );
+    let coloured = read_place(rt.alloc(), b"p0@007")?;
+    assert!(rt;
+        matches!(&coloured, Some(p) if p.place.bytes() == b"p0".as_slice() && p.colour == Some(7))
+    );
+    for word in [
+        b"".as_slice(),
+        b"p@",
+        b"p@x",
+        b"p@4294967296",
+        b"1*p",
+        b"p q",
+    ] {
+        assert!(rt; read_place(rt.alloc(), word)?.is_none());
+    }
+    Ok(())
+}
+
+#[test]
+fn multiples_of_facts(rt: HostRuntime) -> Result<(), Fail> {
+    let factor = read_factor(rt.alloc(), b"-1*f")?;
+    assert!(rt; matches!(&factor, Some(f) if f.value == -1 && f.fact.bytes() == b"f".as_slice()));
+    let others = [
+        b"f".as_slice(),
+        b"1*",
+        b"*f",
+        b"+1*f",
+        b"1*@1",
+        b"1*f@0",
+        b"9223372036854775808*f",
+    ];
+    for word in others {
+        assert!(rt; read_factor(rt.alloc(), word)?.is_none());
+    }
     Ok(())
 }

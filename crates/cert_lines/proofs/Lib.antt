@@ -1,5 +1,2 @@
 mod Amounts
-mod Cuts
 mod LinesAgain
-mod PartsAgain
-mod Spoken

@@ -2,10 +2,10 @@
 use Rattle.std.specs.Prelude.{ℕ, Bool, ◌^◌, ◌-◌, nat_lt, List, ◌∷◌, sum_by, unsigned_abs, decimal, Option, None, Some, if◌then◌else◌}
 use Rattle.std.specs.List.{list_any}
 use Rattle.std.specs.Str.{bytes_eq}
-use Rattle.cert_lines.specs.declared.certificates.Weight.{Weight}
-use Rattle.cert_lines.specs.declared.certificates.Factor.{Factor}
-use Rattle.cert_lines.specs.declared.certificates.Multiplier.{Multiplier}
-use Rattle.cert_lines.specs.declared.certificates.Multiplier.TheVariants.{Fact, Hypothesis}
+use Rattle.line_words.specs.declared.items.Weight.{Weight}
+use Rattle.line_words.specs.declared.items.Factor.{Factor}
+use Rattle.line_words.specs.declared.items.Multiplier.{Multiplier}
+use Rattle.line_words.specs.declared.items.Multiplier.TheVariants.{Fact, Hypothesis}
 
 -- what a coefficient stands on, and its absolute value: a weight counts for its place, whatever the colour
 abbrev pub weight_amount : Weight → List ℕ × ℕ

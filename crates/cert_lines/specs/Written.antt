@@ -1,14 +1,14 @@
 -- What a statement is written as: its words, and the line with one space between them.
 use Rattle.std.specs.Prelude.{ℕ, List, [], ◌∷◌, ◌++◌, map, flat_map, codes, decimal, None, ◌≡◌}
 use Rattle.std.specs.Fmt.{signed_decimal}
-use Rattle.cert_lines.specs.Words.{behind_mark}
-use Rattle.cert_lines.specs.Texts.{factor_text, multiplier_text, place_text, spaced, weight_text}
+use Rattle.line_words.specs.Words.{behind_mark}
+use Rattle.line_words.specs.Texts.{factor_text, instance_text, multiplier_text, place_text, spaced, weight_text}
 use Rattle.cert_lines.specs.Statements.{line_of}
 use Rattle.cert_lines.specs.declared.certificates.NodeForm.{NodeForm}
 use Rattle.cert_lines.specs.declared.certificates.NodeForm.TheVariants as form
 use Rattle.cert_lines.specs.declared.statements.Claim.{Claim}
 use Rattle.cert_lines.specs.declared.statements.Claim.TheVariants as claim
-use Rattle.cert_lines.specs.declared.statements.Line.TheVariants.{Says}
+use Rattle.line_words.specs.declared.lines.Line.TheVariants.{Says}
 use Rattle.cert_lines.specs.declared.statements.Statement.{Statement}
 use Rattle.cert_lines.specs.declared.statements.Statement.TheVariants.{Version, Property, Fact, Step, Proof, Node, End}
 use Rattle.cert_lines.specs.declared.statements.StepClaim.{StepClaim}
@@ -26,7 +26,7 @@ claim_words (claim.Bound limit weights) = signed_decimal limit ∷ map weight_te
 
 abbrev pub step_words : StepClaim → List (List ℕ)
 step_words step =
-    (step.origin.transition ++ 64 ∷ decimal step.origin.binding)
+    instance_text step.origin
     ∷ signed_decimal step.scale
     ∷ signed_decimal step.keep
     ∷ map factor_text step.factors

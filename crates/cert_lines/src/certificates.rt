@@ -1,32 +1,6 @@
+use line_words::{Factor, Multiplier, PlaceRef, Weight};
 use name_tables::Name;
 use sqlite_items::Items;
-
-/// A place of the net file, or one of its instances: `P` or `P@K` in a certificate.
-#[derive(Debug, Drop)]
-pub struct PlaceRef {
-    /// The id of the place.
-    pub place: Name,
-    /// The index of the colour, from 0; `None` stands for all colours of the place.
-    pub colour: Option<u32>,
-}
-
-/// A coefficient on a place, `V*P` or `V*P@K` in a certificate.
-#[derive(Debug, Drop)]
-pub struct Weight {
-    /// The coefficient, of an absolute value up to 2^63 - 1.
-    pub value: i64,
-    /// The place that it stands on.
-    pub place: PlaceRef,
-}
-
-/// A multiple of a fact, `V*NAME` in a certificate.
-#[derive(Debug, Drop)]
-pub struct Factor {
-    /// The multiplier, of an absolute value up to 2^63 - 1.
-    pub value: i64,
-    /// The name of the fact.
-    pub fact: Name,
-}
 
 /// What a bound needs at one transition instance, `T@K` in a certificate.
 #[derive(Debug, Drop)]
@@ -72,20 +46,6 @@ pub struct Fact {
     pub name: Name,
     /// What it claims.
     pub kind: FactKind,
-}
-
-/// One summand of a `close` line.
-#[derive(Debug, Drop)]
-pub enum Multiplier {
-    /// A multiple of a fact, `V*NAME` in a certificate.
-    Fact(Factor),
-    /// A multiple of a hypothesis, `V*@H` in a certificate.
-    Hypothesis {
-        /// The multiplier, of an absolute value up to 2^63 - 1.
-        value: i64,
-        /// The number of the hypothesis; those that are there are numbered from 1.
-        number: u32,
-    },
 }
 
 /// What a node of the case tree does.

@@ -4,19 +4,19 @@
 mod certificates;
 mod laws;
 mod lines;
-mod lists;
-mod parts;
+mod sharing;
 mod statements;
 mod sums;
 mod texts;
-mod words;
 
-pub use certificates::{
-    Cert, Fact, FactKind, Factor, Multiplier, Node, NodeForm, PlaceRef, Step, Weight,
-};
+pub use certificates::{Cert, Fact, FactKind, Node, NodeForm, Step};
 pub use laws::written_line_is_read;
+pub use line_words::{
+    Factor, InstanceRef, Line, Multiplier, PlaceRef, Weight, cut_at, read_factor, read_instance,
+    read_place,
+};
 pub use lines::read_line;
-pub use statements::{Claim, Line, Origin, Statement, StepClaim};
+pub use sharing::certificates_are_shared;
+pub use statements::{Claim, Statement, StepClaim};
 pub use sums::{Valued, is_past};
 pub use texts::write_cert;
-pub use words::cut_at;

@@ -1,56 +1,32 @@
-ghost use Rattle.std.specs.Prelude.{◌≡◌, [], ◌∷◌, IfOk, IfSome, IfNone};
-ghost use Rattle.std.specs.Str.{is_utf8};
-ghost use Rattle.cert_lines.specs.Statements.{IsNotOne, alone, bound_said, cases_said, clash_said, close_said, each_said, flow_said, keyword_of, line_from, line_of, only, property_said, said, split_said, statement_of, step_said, trap_said, version_said, word_for};
+ghost use Rattle.std.specs.Prelude.{◌≡◌, IfOk};
+ghost use Rattle.cert_lines.specs.Statements.{keyword_of, line_of, said, statement_of, word_for};
 
 use crate::certificates::NodeForm;
-use crate::lists::read_list;
-use crate::parts::{read_id, read_index, read_instance, read_place};
-use crate::statements::{Claim, Keyword, Line, Origin, Statement, StepClaim};
-use crate::words::Words;
-use name_tables::{cert_words, read_number};
+use crate::statements::{Claim, Keyword, Statement, StepClaim};
+use line_words::{InstanceRef, Line, LineForm, PlaceRef, Words, no_more, read_list, read_next};
+use name_tables::{Name, cert_words};
 use std::alloc::Global;
-use std::str;
 use wide_sums::Memory;
 
 /// What the bytes of one line say.
-pub fn read_line(alloc: Global, bytes: &[u8]) -> Result<Line, Memory>
+pub fn read_line(alloc: Global, bytes: &[u8]) -> Result<Line<Statement>, Memory>
     ensures { IfOk result (λ line. line ≡ line_of bytes.now) }
 {
-    let mut words = Words::new(bytes);
-    let Some(first) = words.next() else {
-        return Ok(Line::Passed);
-    };
-    if let [b'#', ..] = first {
-        return Ok(Line::Passed);
-    }
-    if !is_text(bytes) {
-        return Ok(Line::Faulty);
-    }
-    match read_statement(alloc, first, &mut words)? {
-        Some(statement) => Ok(Line::Says(statement)),
-        None => Ok(Line::Faulty),
-    }
+    line_words::read_line(alloc, bytes)
 }
 
-fn is_text(bytes: &[u8]) -> bool
-    ensures { result ≡ is_utf8 bytes.now }
-{
-    match str::from_utf8(bytes) {
-        Ok(_) => true,
-        Err(_) => false,
-    }
-}
+impl LineForm for Statement {
+    ghost meaning = { statement_of };
 
-fn read_statement(
-    alloc: Global,
-    first: &[u8],
-    words: &mut Words<'_>,
-) -> Result<Option<Statement>, Memory>
-    ensures { IfOk result (λ statement. statement ≡ statement_of first.now words.old) }
-{
-    match read_keyword(first) {
-        Some(keyword) => read_words(alloc, keyword, words),
-        None => Ok(None),
+    fn read(
+        alloc: Global,
+        first: &[u8],
+        words: &mut Words<'_>,
+    ) -> Result<Option<Statement>, Memory> {
+        match read_keyword(first) {
+            Some(keyword) => read_words(alloc, keyword, words),
+            None => Ok(None),
+        }
     }
 }
 
@@ -113,14 +89,14 @@ fn read_words(
 {
     match keyword {
         Keyword::Bound => read_bound(alloc, words),
-        Keyword::Cases => Ok(read_cases(words)),
+        Keyword::Cases => read_cases(alloc, words),
         Keyword::Certificate => Ok(read_version(words)),
         Keyword::Clash => read_clash(alloc, words),
         Keyword::Close => read_close(alloc, words),
-        Keyword::Each => Ok(read_each(words)),
-        Keyword::End => Ok(read_end(words)),
+        Keyword::Each => read_each(alloc, words),
+        Keyword::End => Ok(no_more(words, Statement::End)),
         Keyword::Flow => read_flow(alloc, words),
-        Keyword::Proof => Ok(read_proof(words)),
+        Keyword::Proof => Ok(no_more(words, Statement::Proof)),
         Keyword::Property => read_property(alloc, words),
         Keyword::Split => read_split(alloc, words),
         Keyword::Step => read_step(alloc, words),
@@ -128,64 +104,28 @@ fn read_words(
     }
 }
 
-/// The one word that is left, where it is one.
-fn only_word<'a>(words: &mut Words<'a>) -> Option<&'a [u8]>
-    ensures some { IfSome result (λ word. words.old ≡ word.now ∷ []) }
-    ensures none { IfNone result (IsNotOne words.old) }
-{
-    let word = words.next()?;
-    match words.next() {
-        Some(_) => None,
-        None => Some(word),
-    }
-}
-
 fn read_version(words: &mut Words<'_>) -> Option<Statement>
-    ensures { result ≡ only version_said words.old }
+    ensures { result ≡ said Keyword.Certificate words.old }
 {
-    match only_word(words) {
-        Some(word) if word == b"1".as_slice() => Some(Statement::Version),
+    match words.next() {
+        Some(word) if word == b"1".as_slice() => no_more(words, Statement::Version),
         _ => None,
     }
 }
 
 fn read_property(alloc: Global, words: &mut Words<'_>) -> Result<Option<Statement>, Memory>
-    ensures { IfOk result (λ statement. statement ≡ only property_said words.old) }
+    ensures { IfOk result (λ statement. statement ≡ said Keyword.Property words.old) }
 {
-    let Some(word) = only_word(words) else {
+    let Some(id) = read_next::<Name>(alloc, words)? else {
         return Ok(None);
     };
-    match read_id(alloc, word)? {
-        Some(property) => Ok(Some(Statement::Property(property))),
-        None => Ok(None),
-    }
-}
-
-fn read_proof(words: &mut Words<'_>) -> Option<Statement>
-    ensures { result ≡ alone Statement.Proof words.old }
-{
-    match words.next() {
-        Some(_) => None,
-        None => Some(Statement::Proof),
-    }
-}
-
-fn read_end(words: &mut Words<'_>) -> Option<Statement>
-    ensures { result ≡ alone Statement.End words.old }
-{
-    match words.next() {
-        Some(_) => None,
-        None => Some(Statement::End),
-    }
+    Ok(no_more(words, Statement::Property(id)))
 }
 
 fn read_flow(alloc: Global, words: &mut Words<'_>) -> Result<Option<Statement>, Memory>
-    ensures { IfOk result (λ statement. statement ≡ flow_said words.old) }
+    ensures { IfOk result (λ statement. statement ≡ said Keyword.Flow words.old) }
 {
-    let Some(word) = words.next() else {
-        return Ok(None);
-    };
-    let Some(name) = read_id(alloc, word)? else {
+    let Some(name) = read_next::<Name>(alloc, words)? else {
         return Ok(None);
     };
     match read_list(alloc, words)? {
@@ -198,12 +138,9 @@ fn read_flow(alloc: Global, words: &mut Words<'_>) -> Result<Option<Statement>, 
 }
 
 fn read_trap(alloc: Global, words: &mut Words<'_>) -> Result<Option<Statement>, Memory>
-    ensures { IfOk result (λ statement. statement ≡ trap_said words.old) }
+    ensures { IfOk result (λ statement. statement ≡ said Keyword.Trap words.old) }
 {
-    let Some(word) = words.next() else {
-        return Ok(None);
-    };
-    let Some(name) = read_id(alloc, word)? else {
+    let Some(name) = read_next::<Name>(alloc, words)? else {
         return Ok(None);
     };
     match read_list(alloc, words)? {
@@ -216,15 +153,12 @@ fn read_trap(alloc: Global, words: &mut Words<'_>) -> Result<Option<Statement>, 
 }
 
 fn read_bound(alloc: Global, words: &mut Words<'_>) -> Result<Option<Statement>, Memory>
-    ensures { IfOk result (λ statement. statement ≡ bound_said words.old) }
+    ensures { IfOk result (λ statement. statement ≡ said Keyword.Bound words.old) }
 {
-    let (Some(word), Some(digits)) = (words.next(), words.next()) else {
+    let Some(name) = read_next::<Name>(alloc, words)? else {
         return Ok(None);
     };
-    let Some(name) = read_id(alloc, word)? else {
-        return Ok(None);
-    };
-    let Some(limit) = read_number(digits, true) else {
+    let Some(limit) = read_next::<i64>(alloc, words)? else {
         return Ok(None);
     };
     match read_list(alloc, words)? {
@@ -237,23 +171,20 @@ fn read_bound(alloc: Global, words: &mut Words<'_>) -> Result<Option<Statement>,
 }
 
 fn read_step(alloc: Global, words: &mut Words<'_>) -> Result<Option<Statement>, Memory>
-    ensures { IfOk result (λ statement. statement ≡ step_said words.old) }
+    ensures { IfOk result (λ statement. statement ≡ said Keyword.Step words.old) }
 {
-    let (Some(at), Some(scale), Some(keep)) = (words.next(), words.next(), words.next()) else {
+    let Some(origin) = read_next::<InstanceRef>(alloc, words)? else {
         return Ok(None);
     };
-    let Some((transition, binding)) = read_instance(alloc, at)? else {
+    let Some(scale) = read_next::<i64>(alloc, words)? else {
         return Ok(None);
     };
-    let (Some(scale), Some(keep)) = (read_number(scale, true), read_number(keep, true)) else {
+    let Some(keep) = read_next::<i64>(alloc, words)? else {
         return Ok(None);
     };
     match read_list(alloc, words)? {
         Some(factors) => Ok(Some(Statement::Step(StepClaim {
-            origin: Origin {
-                transition,
-                binding,
-            },
+            origin,
             scale,
             keep,
             factors,
@@ -263,7 +194,7 @@ fn read_step(alloc: Global, words: &mut Words<'_>) -> Result<Option<Statement>, 
 }
 
 fn read_close(alloc: Global, words: &mut Words<'_>) -> Result<Option<Statement>, Memory>
-    ensures { IfOk result (λ statement. statement ≡ close_said words.old) }
+    ensures { IfOk result (λ statement. statement ≡ said Keyword.Close words.old) }
 {
     match read_list(alloc, words)? {
         Some(multipliers) => Ok(Some(Statement::Node(NodeForm::Close(multipliers)))),
@@ -272,24 +203,18 @@ fn read_close(alloc: Global, words: &mut Words<'_>) -> Result<Option<Statement>,
 }
 
 fn read_clash(alloc: Global, words: &mut Words<'_>) -> Result<Option<Statement>, Memory>
-    ensures { IfOk result (λ statement. statement ≡ only clash_said words.old) }
+    ensures { IfOk result (λ statement. statement ≡ said Keyword.Clash words.old) }
 {
-    let Some(word) = only_word(words) else {
+    let Some(place) = read_next::<PlaceRef>(alloc, words)? else {
         return Ok(None);
     };
-    match read_place(alloc, word)? {
-        Some(place) => Ok(Some(Statement::Node(NodeForm::Clash(place)))),
-        None => Ok(None),
-    }
+    Ok(no_more(words, Statement::Node(NodeForm::Clash(place))))
 }
 
 fn read_split(alloc: Global, words: &mut Words<'_>) -> Result<Option<Statement>, Memory>
-    ensures { IfOk result (λ statement. statement ≡ split_said words.old) }
+    ensures { IfOk result (λ statement. statement ≡ said Keyword.Split words.old) }
 {
-    let Some(digits) = words.next() else {
-        return Ok(None);
-    };
-    let Some(limit) = read_number(digits, true) else {
+    let Some(limit) = read_next::<i64>(alloc, words)? else {
         return Ok(None);
     };
     match read_list(alloc, words)? {
@@ -298,26 +223,23 @@ fn read_split(alloc: Global, words: &mut Words<'_>) -> Result<Option<Statement>,
     }
 }
 
-fn read_cases(words: &mut Words<'_>) -> Option<Statement>
-    ensures { result ≡ cases_said words.old }
+fn read_cases(alloc: Global, words: &mut Words<'_>) -> Result<Option<Statement>, Memory>
+    ensures { IfOk result (λ statement. statement ≡ said Keyword.Cases words.old) }
 {
-    let (choice, branches) = (words.next()?, words.next()?);
-    if words.next().is_some() {
-        return None;
-    }
-    match (read_index(choice), read_index(branches)) {
-        (Some(choice), Some(branches)) => {
-            Some(Statement::Node(NodeForm::Cases { choice, branches }))
-        }
-        _ => None,
-    }
+    let Some(choice) = read_next::<u32>(alloc, words)? else {
+        return Ok(None);
+    };
+    let Some(branches) = read_next::<u32>(alloc, words)? else {
+        return Ok(None);
+    };
+    Ok(no_more(words, Statement::Node(NodeForm::Cases { choice, branches })))
 }
 
-fn read_each(words: &mut Words<'_>) -> Option<Statement>
-    ensures { result ≡ only each_said words.old }
+fn read_each(alloc: Global, words: &mut Words<'_>) -> Result<Option<Statement>, Memory>
+    ensures { IfOk result (λ statement. statement ≡ said Keyword.Each words.old) }
 {
-    match read_index(only_word(words)?) {
-        Some(choice) => Some(Statement::Node(NodeForm::Each { choice })),
-        None => None,
-    }
+    let Some(choice) = read_next::<u32>(alloc, words)? else {
+        return Ok(None);
+    };
+    Ok(no_more(words, Statement::Node(NodeForm::Each { choice })))
 }

@@ -1,4 +1,5 @@
-use crate::certificates::{Factor, NodeForm, PlaceRef, Weight};
+use crate::certificates::NodeForm;
+use line_words::{Factor, InstanceRef, PlaceRef, Weight};
 use name_tables::Name;
 use sqlite_items::Items;
 
@@ -20,13 +21,6 @@ pub enum Keyword {
     Trap,
 }
 
-/// A transition instance: the id of the transition, and the index of the binding.
-#[derive(Debug, Drop, PartialEq, Eq, Hash)]
-pub struct Origin {
-    pub transition: Name,
-    pub binding: u32,
-}
-
 /// What a fact's own line claims.
 #[derive(Drop)]
 pub enum Claim {
@@ -38,7 +32,7 @@ pub enum Claim {
 /// A step of a bound without the number of its line.
 #[derive(Drop)]
 pub struct StepClaim {
-    pub origin: Origin,
+    pub origin: InstanceRef,
     pub scale: i64,
     pub keep: i64,
     pub factors: Items<Factor>,
@@ -54,12 +48,4 @@ pub enum Statement {
     Proof,
     Node(NodeForm),
     End,
-}
-
-/// One line: passed over, out of form, or a statement.
-#[derive(Drop)]
-pub enum Line {
-    Passed,
-    Faulty,
-    Says(Statement),
 }

@@ -4,9 +4,9 @@ ghost use Rattle.std.specs.Str.{bytes_eq};
 ghost use Rattle.indexmap.specs.IndexMap.{get_by};
 ghost use Rattle.cert_lines.specs.Sums.{are_past, factor_amount, multiplier_amount, or_zero, share, weight_amount};
 
-use crate::certificates::{Factor, Multiplier, Weight};
 use indexmap::IndexMap;
 use itoa::Buffer;
+use line_words::{Factor, Multiplier, Weight};
 use name_tables::Name;
 use std::alloc::Global;
 use wide_sums::Memory;

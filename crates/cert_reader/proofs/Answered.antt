@@ -3,14 +3,13 @@ use Rattle.std.proofs.Common.{◌≡◌, ℕ, suc, ◌+◌, ◌⊎◌, inl, inr,
 use Rattle.std.proofs.lemmas.Bool.{true≢false}
 use Rattle.std.proofs.lemmas.List.{append_assoc, append-nil, append_cancel_left}
 use Rattle.cert_lines.specs.Statements.{line_of}
-use Rattle.cert_lines.specs.Words.{lines_of}
+use Rattle.line_words.specs.Words.{lines_of}
 use Rattle.cert_lines.specs.declared.certificates.Cert.{Cert}
-use Rattle.cert_lines.specs.declared.statements.Line.{Line}
-use Rattle.cert_lines.specs.declared.statements.Line.TheVariants.{Passed, Faulty, Says}
+use Rattle.cert_lines.specs.Statements.{CertLine}
+use Rattle.line_words.specs.declared.lines.Line.TheVariants.{Passed, Faulty, Says}
 use Rattle.cert_lines.specs.declared.statements.Statement.{Statement}
 use Rattle.cert_reader.specs.Grammar.{HasFault, HasLineFault, IsAtFault, IsCertificate, IsFaultless, IsInOrder, IsRefusal, IsSomeTree, HaveOneAnswer, Spells, spoken, spoken_from, unless_passed}
 use Rattle.cert_reader.specs.Reading.{DraftState, IsAnswer, after, certificate_of, finished_at, going_on, nothing_read, read_lines, take_said, take_statement}
-use Rattle.cert_reader.specs.Pieces.{IsFault, ReaderState, StandsFor, what_follows}
 use Rattle.cert_reader.specs.declared.faults.CertFault.{CertFault}
 use Rattle.cert_reader.specs.declared.faults.CertFault.TheVariants as fault
 use Rattle.cert_reader.specs.declared.stages.Stage.{Stage}
@@ -49,13 +48,13 @@ two_cuts (o ∷ one) x xs (p ∷ other) y ys e =
     subst (λ q. Cuts (o ∷ one) x (q ∷ other) y) same (longer_cut o one x other y (two_cuts one x xs other y ys (tails o p (one ++ x ∷ xs) (other ++ y ∷ ys) e)))
 
 -- one more line without a fault
-abbrev NoFault : List (ℕ × Line) → ℕ × Line → Type 0
+abbrev NoFault : List (ℕ × CertLine) → ℕ × CertLine → Type 0
 NoFault front line = (refusal : CertFault) → HasLineFault front line refusal → ⊥
 
 none_faultless : IsFaultless []
 none_faultless before line later refusal is has = not_empty before line later is
 
-faultless_more : (front : List (ℕ × Line)) (line : ℕ × Line) → IsFaultless front → NoFault front line → IsFaultless (front ++ line ∷ [])
+faultless_more : (front : List (ℕ × CertLine)) (line : ℕ × CertLine) → IsFaultless front → NoFault front line → IsFaultless (front ++ line ∷ [])
 faultless_more front line are none before other later refusal is has = by (two_cuts front line [] before other later is)
   where
     by : Cuts front line before other → ⊥
@@ -67,14 +66,14 @@ faultless_more front line are none before other later refusal is has = by (two_c
     by (inr (inr (rest, within))) = are before other rest refusal within has
 
 -- a line that is taken has no fault
-taken_no_fault : (front : List (ℕ × Line)) (draft next : DraftState) (number : ℕ) (statement : Statement) → Follows nothing_read front draft → Past draft front
+taken_no_fault : (front : List (ℕ × CertLine)) (draft next : DraftState) (number : ℕ) (statement : Statement) → Follows nothing_read front draft → Past draft front
     → take_statement number draft statement ≡ Ok next → NoFault front (number, Says statement)
 taken_no_fault front draft next number statement follows past e = λ refusal has.
     let t = taken number draft statement next e in
     no_line_fault front draft number statement refusal follows past t.stands t.fresh t.small t.within has
 
 -- the lines so far
-pub record Reached (front : List (ℕ × Line)) (draft : DraftState) : Type 0 where
+pub record Reached (front : List (ℕ × CertLine)) (draft : DraftState) : Type 0 where
   pub follows : Follows nothing_read front draft
   pub past : Past draft front
   pub faultless : IsFaultless front
@@ -82,7 +81,7 @@ pub record Reached (front : List (ℕ × Line)) (draft : DraftState) : Type 0 wh
 begun : Reached [] nothing_read
 begun = record { follows = refl; past = past_nothing; faultless = none_faultless }
 
-reached_more : (front : List (ℕ × Line)) (draft next : DraftState) (number : ℕ) (statement : Statement) → Reached front draft → take_statement number draft statement ≡ Ok next
+reached_more : (front : List (ℕ × CertLine)) (draft next : DraftState) (number : ℕ) (statement : Statement) → Reached front draft → take_statement number draft statement ≡ Ok next
     → Reached (front ++ (number, Says statement) ∷ []) next
 reached_more front draft next number statement reached e =
     let t = taken number draft statement next e in
@@ -93,7 +92,7 @@ reached_more front draft next number statement reached e =
     })
 
 -- the fault that is answered is the first one
-abbrev Found : List (ℕ × Line) → ℕ → CertFault → Type 0
+abbrev Found : List (ℕ × CertLine) → ℕ → CertFault → Type 0
 Found lines end refusal =
     IsAtFault lines refusal ⊎ (IsFaultless lines × ((cert : Cert) → IsInOrder lines cert → IsSomeTree cert.tree → ⊥) × (refusal ≡ fault.Line end))
 
@@ -106,7 +105,7 @@ unfinished_at stage.Tree number draft refusal is e = (cc, λ over. cc)
 unfinished_at stage.End number draft refusal is e = (cc, λ over. cc)
 unfinished_at stage.Nothing number draft refusal is e = absurd (cc)
 
-found : (lines : List (List ℕ)) (number : ℕ) (draft : DraftState) (front : List (ℕ × Line)) (refusal : CertFault) → Reached front draft
+found : (lines : List (List ℕ)) (number : ℕ) (draft : DraftState) (front : List (ℕ × CertLine)) (refusal : CertFault) → Reached front draft
     → read_lines number draft lines ≡ Err refusal → Found (front ++ spoken_from number lines) (number + length lines) refusal
 found [] number draft front refusal reached e =
     let end = unfinished_at draft.stage number draft refusal refl e in
@@ -122,8 +121,8 @@ found (line ∷ lines) number draft front refusal reached e = by (line_of line) 
     ends : number + 1 + length lines ≡ number + suc (length lines)
     ends = omega arith
 
-    by : (said : Line) → going_on (take_said number draft said) (λ next. read_lines (number + 1) next lines) ≡ Err refusal
-        → ((draft : DraftState) (front : List (ℕ × Line)) (refusal : CertFault) → Reached front draft → read_lines (number + 1) draft lines ≡ Err refusal
+    by : (said : CertLine) → going_on (take_said number draft said) (λ next. read_lines (number + 1) next lines) ≡ Err refusal
+        → ((draft : DraftState) (front : List (ℕ × CertLine)) (refusal : CertFault) → Reached front draft → read_lines (number + 1) draft lines ≡ Err refusal
         → Found (front ++ spoken_from (number + 1) lines) (number + 1 + length lines) refusal)
         → Found (front ++ (unless_passed number said ++ spoken_from (number + 1) lines)) (number + suc (length lines)) refusal
     by Passed e later = subst (λ n. Found (front ++ spoken_from (number + 1) lines) n refusal) ends (later draft front refusal reached e)
@@ -162,13 +161,13 @@ fault_read bytes refusal e =
     (found (lines_of bytes) 1 nothing_read [] refusal begun e)
 
 -- lines that give a certificate have no fault
-ok_faultless : (lines : List (List ℕ)) (number : ℕ) (draft : DraftState) (front : List (ℕ × Line)) (cert : Cert) → Reached front draft
+ok_faultless : (lines : List (List ℕ)) (number : ℕ) (draft : DraftState) (front : List (ℕ × CertLine)) (cert : Cert) → Reached front draft
     → read_lines number draft lines ≡ Ok cert → IsFaultless (front ++ spoken_from number lines)
 ok_faultless [] number draft front cert reached e = subst IsFaultless (sym (append-nil front)) reached.faultless
 ok_faultless (line ∷ lines) number draft front cert reached e = by (line_of line) e (ok_faultless lines (number + 1))
   where
-    by : (said : Line) → going_on (take_said number draft said) (λ next. read_lines (number + 1) next lines) ≡ Ok cert
-        → ((draft : DraftState) (front : List (ℕ × Line)) (cert : Cert) → Reached front draft → read_lines (number + 1) draft lines ≡ Ok cert → IsFaultless (front ++ spoken_from (number + 1) lines))
+    by : (said : CertLine) → going_on (take_said number draft said) (λ next. read_lines (number + 1) next lines) ≡ Ok cert
+        → ((draft : DraftState) (front : List (ℕ × CertLine)) (cert : Cert) → Reached front draft → read_lines (number + 1) draft lines ≡ Ok cert → IsFaultless (front ++ spoken_from (number + 1) lines))
         → IsFaultless (front ++ (unless_passed number said ++ spoken_from (number + 1) lines))
     by Passed e later = later draft front cert reached e
     by Faulty e later = absurd (cc)
@@ -182,7 +181,7 @@ ok_faultless (line ∷ lines) number draft front cert reached e = by (line_of li
             (later next (front ++ (number, Says statement) ∷ []) cert (reached_more front draft next number statement reached is) e)
 
 -- a line has one fault
-one_line_fault : (front : List (ℕ × Line)) (line : ℕ × Line) (one other : CertFault) → HasLineFault front line one → HasLineFault front line other → one ≡ other
+one_line_fault : (front : List (ℕ × CertLine)) (line : ℕ × CertLine) (one other : CertFault) → HasLineFault front line one → HasLineFault front line other → one ≡ other
 one_line_fault front line (fault.Line m) (fault.Line n) a b = ap fault.Line (a.0 ∙ sym b.0)
 one_line_fault front line (fault.Repeated m) (fault.Repeated n) a b = ap fault.Repeated (a.0 ∙ sym b.0)
 one_line_fault front line (fault.Coefficient m) (fault.Coefficient n) a b = ap fault.Coefficient (a.0 ∙ sym b.0)
@@ -203,7 +202,7 @@ one_line_fault front line fault.Memory other a b = absurd a
 one_line_fault front line one fault.Memory a b = absurd b
 
 -- and so have lines
-one_at_fault : (lines : List (ℕ × Line)) (one other : CertFault) → IsAtFault lines one → IsAtFault lines other → one ≡ other
+one_at_fault : (lines : List (ℕ × CertLine)) (one other : CertFault) → IsAtFault lines one → IsAtFault lines other → one ≡ other
 one_at_fault lines one other (before, line, later, is, none, has) (before_other, line_other, later_other, is_other, none_other, has_other) =
     by (two_cuts before line later before_other line_other later_other (sym is ∙ is_other))
   where
@@ -214,7 +213,7 @@ one_at_fault lines one other (before, line, later, is, none, has) (before_other,
     by (inr (inl (rest, longer))) = absurd (none_other before line rest one longer has)
     by (inr (inr (rest, longer))) = absurd (none before_other line_other rest other longer has_other)
 
-no_at_fault : (lines : List (ℕ × Line)) (refusal : CertFault) → IsFaultless lines → IsAtFault lines refusal → ⊥
+no_at_fault : (lines : List (ℕ × CertLine)) (refusal : CertFault) → IsFaultless lines → IsAtFault lines refusal → ⊥
 no_at_fault lines refusal faultless (before, line, later, is, none, has) = faultless before line later refusal is has
 
 pub one_fault : (bytes : List ℕ) (one other : CertFault) → HasFault bytes one → HasFault bytes other → one ≡ other
@@ -259,24 +258,17 @@ certificate_answer bytes (Err (fault.Coefficient number)) e = fault_read bytes (
 certificate_answer bytes (Err (fault.CertLimit number)) e = fault_read bytes (fault.CertLimit number) e
 certificate_answer bytes (Err fault.Memory) e = tt
 
+-- the answer of every file that begins with these bytes
+pub refusal_of : (refusal : CertFault) (front : List ℕ) → ((more : List ℕ) → IsAnswer {A = Cert} (Err refusal) (certificate_of (front ++ more))) → IsRefusal refusal front
+refusal_of (fault.Line number) front is = λ more. fault_read (front ++ more) (fault.Line number) (is more)
+refusal_of (fault.Repeated number) front is = λ more. fault_read (front ++ more) (fault.Repeated number) (is more)
+refusal_of (fault.Coefficient number) front is = λ more. fault_read (front ++ more) (fault.Coefficient number) (is more)
+refusal_of (fault.CertLimit number) front is = λ more. fault_read (front ++ more) (fault.CertLimit number) (is more)
+refusal_of fault.Memory front is = tt
+
 pub refused_certificate : (refusal : CertFault) (bytes : List ℕ) → IsRefusal refusal bytes → IsCertificate bytes (Err refusal)
 refused_certificate (fault.Line number) bytes is = subst (λ w. HasFault w (fault.Line number)) (append-nil bytes) (is [])
 refused_certificate (fault.Repeated number) bytes is = subst (λ w. HasFault w (fault.Repeated number)) (append-nil bytes) (is [])
 refused_certificate (fault.Coefficient number) bytes is = subst (λ w. HasFault w (fault.Coefficient number)) (append-nil bytes) (is [])
 refused_certificate (fault.CertLimit number) bytes is = subst (λ w. HasFault w (fault.CertLimit number)) (append-nil bytes) (is [])
 refused_certificate fault.Memory bytes is = tt
-
-pub feed_refusal : {A : Type 0} (result : Result A CertFault) (reader : ReaderState) (before piece : List ℕ) → StandsFor reader before
-    → IfErr result (λ refusal. IsFault refusal (λ more. what_follows reader (piece ++ more))) → IfErr result (λ refusal. IsRefusal refusal (before ++ piece))
-feed_refusal (Ok value) reader before piece stands is = tt
-feed_refusal (Err refusal) reader before piece stands is = by refusal is
-  where
-    there : (more : List ℕ) → certificate_of ((before ++ piece) ++ more) ≡ what_follows reader (piece ++ more)
-    there more = ap certificate_of (append_assoc before piece more) ∙ sym (stands (piece ++ more))
-
-    by : (refusal : CertFault) → IsFault refusal (λ more. what_follows reader (piece ++ more)) → IsRefusal refusal (before ++ piece)
-    by (fault.Line number) is = λ more. fault_read ((before ++ piece) ++ more) (fault.Line number) (there more ∙ is more)
-    by (fault.Repeated number) is = λ more. fault_read ((before ++ piece) ++ more) (fault.Repeated number) (there more ∙ is more)
-    by (fault.Coefficient number) is = λ more. fault_read ((before ++ piece) ++ more) (fault.Coefficient number) (there more ∙ is more)
-    by (fault.CertLimit number) is = λ more. fault_read ((before ++ piece) ++ more) (fault.CertLimit number) (there more ∙ is more)
-    by fault.Memory is = tt

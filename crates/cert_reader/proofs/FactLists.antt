@@ -9,7 +9,7 @@ use Rattle.cert_lines.specs.declared.certificates.Fact.{Fact}
 use Rattle.cert_lines.specs.declared.certificates.FactKind.{FactKind}
 use Rattle.cert_lines.specs.declared.certificates.FactKind.TheVariants.{Flow, Trap, Bound}
 use Rattle.cert_lines.specs.declared.certificates.Step.{Step}
-use Rattle.cert_lines.specs.declared.statements.Origin.{Origin}
+use Rattle.line_words.specs.declared.items.InstanceRef.{InstanceRef}
 use Rattle.cert_reader.specs.Reading.{grown, is_bound, last_fact, names_of, origin_of, origins_of, same_origin, stepped, takes_steps, with_step}
 use Rattle.cert_lines.specs.Texts.{steps_of}
 
@@ -72,7 +72,7 @@ names_put keys after facts now fact added known new is put = by (list_any (bytes
         ∙ sym (names_of_grown facts fact)
         ∙ ap names_of (sym (is ∙ ap (λ a. cond a (facts ++ fact ∷ []) facts) (new ∙ ap not e)))
 
-pub origins_put : (before after : List Origin) (facts now : List Fact) (fact : Fact) (added : Bool)
+pub origins_put : (before after : List InstanceRef) (facts now : List Fact) (fact : Fact) (added : Bool)
     → before ≡ origins_of (last_fact facts) → steps_of fact.kind ≡ [] → now ≡ cond added (facts ++ fact ∷ []) facts
     → after ≡ cond added [] before → after ≡ origins_of (last_fact now)
 origins_put before after facts now fact true known none is put =
@@ -80,7 +80,7 @@ origins_put before after facts now fact true known none is put =
 origins_put before after facts now fact false known none is put = put ∙ known ∙ ap (λ fs. origins_of (last_fact fs)) (sym is)
 
 -- what the insertion of a new transition instance leaves
-pub new_origin : (keys : List Origin) (facts : List Fact) (step : Step) (after : List Origin)
+pub new_origin : (keys : List InstanceRef) (facts : List Fact) (step : Step) (after : List InstanceRef)
     → keys ≡ origins_of (last_fact facts) → takes_steps (last_fact facts) ≡ true
     → list_any (same_origin (origin_of step)) (origins_of (last_fact facts)) ≡ false
     → after ≡ cond (list_any (same_origin (origin_of step)) keys) keys (keys ++ origin_of step ∷ []) → after ≡ origins_of (last_fact (with_step facts step))

@@ -1,7 +1,6 @@
 mod Answered
 mod FactLists
 mod Limits
-mod LineCuts
 mod LineFaults
 mod Orders
 mod Spelled

@@ -12,17 +12,19 @@ use Rattle.cert_lines.specs.declared.certificates.FactKind.TheVariants.{Flow, Tr
 use Rattle.cert_lines.specs.declared.certificates.Node.{Node}
 use Rattle.cert_lines.specs.declared.certificates.NodeForm.{NodeForm}
 use Rattle.cert_lines.specs.declared.certificates.Step.{Step}
-use Rattle.cert_lines.specs.declared.statements.Line.{Line}
-use Rattle.cert_lines.specs.declared.statements.Origin.{Origin}
+use Rattle.cert_lines.specs.Statements.{CertLine}
+use Rattle.line_words.specs.declared.items.InstanceRef.{InstanceRef}
 use Rattle.cert_lines.specs.declared.statements.Statement.{Statement}
 use Rattle.cert_lines.specs.declared.statements.Statement.TheVariants as say
 use Rattle.cert_lines.specs.Texts.{steps_of}
-use Rattle.cert_reader.specs.Reading.{DraftState, after, branches_of, fact_at, grown, is_past_limits, is_repeated, last_fact, may_stand, may_stand_at, names_of, node_at, opens_after, origin_of, origins_of, same_origin, stepped, with_step}
+use Rattle.prefix_trees.specs.Trees.{opens_after}
+use Rattle.cert_reader.specs.Reading.{DraftState, after, branches_of, branches_on, fact_at, grown, is_past_limits, is_repeated, last_fact, may_stand, may_stand_at, names_of, node_at, origin_of, origins_of, same_origin, stepped, with_step}
 use Rattle.cert_reader.specs.declared.stages.Stage.{Stage}
 use Rattle.cert_reader.specs.declared.stages.Stage.TheVariants as stage
 use Rattle.cert_reader.proofs.FactLists.{names_of_grown, names_with_step}
 use Rattle.cert_reader.proofs.Orders.{Follows, IsOpen, Past, PastAt, no_steps_begun, past_after}
-use Rattle.cert_reader.proofs.Trees.{Grown, grown_less, grown_more, grown_once}
+use Rattle.prefix_trees.proofs.Climbs.{grown_less, grown_more, grown_once}
+use Rattle.cert_reader.proofs.Trees.{Grown}
 
 -- one more at the end of a list
 all_more : {X : Type 0} (P : X → Type 0) (xs : List X) (x : X) → AllByRecursion P xs → P x → AllByRecursion P (xs ++ x ∷ [])
@@ -51,7 +53,7 @@ distinct_less e flips (y ∷ ys) x (first, apart) =
 names_flip : (x y : List ℕ) → bytes_eq x y ≡ bytes_eq y x
 names_flip x y = nat_list_eq_equiv.symm x y
 
-origins_flip : (x y : Origin) → same_origin x y ≡ same_origin y x
+origins_flip : (x y : InstanceRef) → same_origin x y ≡ same_origin y x
 origins_flip x y =
     ap (λ t. t && nat_eq x.binding y.binding) (names_flip x.transition y.transition)
     ∙ ap (λ t. bytes_eq y.transition x.transition && t) (nat_eq_equiv.symm x.binding y.binding)
@@ -96,7 +98,7 @@ steps_less (fact ∷ []) step (is, none) = let parts = step_less fact.line fact.
 steps_less (fact ∷ next ∷ facts) step (is, are) = let parts = steps_less (next ∷ facts) step are in ((is, parts.0), parts.1)
 
 -- one more node
-pub node_open : (at : Stage) (front : List (ℕ × Line)) (id : List ℕ) (facts : List Fact) (tree : List Node) (opens : List ℕ) (form : NodeForm)
+pub node_open : (at : Stage) (front : List (ℕ × CertLine)) (id : List ℕ) (facts : List Fact) (tree : List Node) (opens : List ℕ) (form : NodeForm)
     → PastAt at front id facts tree opens → may_stand_at at facts (say.Node form) ≡ true → IsOpen tree opens × ((most : ℕ) × Grown most tree opens)
 node_open stage.Version front id facts tree opens form past e = absurd (false≢true e)
 node_open stage.Property front id facts tree opens form past e = absurd (false≢true e)
@@ -110,10 +112,10 @@ node_more : (tree : List Node) (opens : List ℕ) (node : Node) → IsOpen tree 
 node_more [] opens node is grown within = (omega arith, ap (opens_after (branches_of node.form)) is)
 node_more (root ∷ nodes) opens node (count, counts, is) grown within =
     subst (λ w. Grown 256 ((root ∷ nodes) ++ node ∷ []) (opens_after (branches_of node.form) w)) (sym is)
-    (grown_more 256 node (suc count) counts (root ∷ nodes) (subst (λ w. length w < 256) is within) (subst (λ w. Grown 256 (root ∷ nodes) w) is grown))
+    (grown_more branches_on 256 node (suc count) counts (root ∷ nodes) (subst (λ w. length w < 256) is within) (subst (λ w. Grown 256 (root ∷ nodes) w) is grown))
 
 -- what is asked stays true exactly where the line has no fault
-pub limited_after : (number : ℕ) (draft : DraftState) (front : List (ℕ × Line)) (statement : Statement) → Past draft front → may_stand draft statement ≡ true
+pub limited_after : (number : ℕ) (draft : DraftState) (front : List (ℕ × CertLine)) (statement : Statement) → Past draft front → may_stand draft statement ≡ true
     → is_repeated draft statement ≡ false → is_past_limits draft statement ≡ false → Limited draft → Limited (after number draft statement)
 unfolding IsDistinct
 limited_after number draft front say.Version past stands fresh within is = record { names = is.names; steps = is.steps; nodes = is.nodes; grown = is.grown }
@@ -149,7 +151,7 @@ pub record WasLimited (draft : DraftState) (statement : Statement) : Type 0 wher
   pub fresh : is_repeated draft statement ≡ false
   pub within : is_past_limits draft statement ≡ false
 
-pub limited_before : (number : ℕ) (draft : DraftState) (front : List (ℕ × Line)) (statement : Statement) → Past draft front → may_stand draft statement ≡ true
+pub limited_before : (number : ℕ) (draft : DraftState) (front : List (ℕ × CertLine)) (statement : Statement) → Past draft front → may_stand draft statement ≡ true
     → Limited (after number draft statement) → WasLimited draft statement
 limited_before number draft front say.Version past stands is = record { limited = record { names = is.names; steps = is.steps; nodes = is.nodes; grown = is.grown }; fresh = refl; within = refl }
 limited_before number draft front (say.Property id) past stands is = record { limited = record { names = is.names; steps = is.steps; nodes = is.nodes; grown = is.grown }; fresh = refl; within = refl }
@@ -164,8 +166,8 @@ limited_before number draft front (say.Step step) past stands is =
 limited_before number draft front say.Proof past stands is = record { limited = record { names = is.names; steps = is.steps; nodes = is.nodes; grown = is.grown }; fresh = refl; within = refl }
 limited_before number draft front (say.Node form) past stands is =
     let now = node_open draft.stage front draft.property draft.facts draft.tree draft.opens form past stands in
-    let less = grown_less 256 (node_at number form) draft.tree _ is.grown in
-    let same : less.0 ≡ draft.opens = grown_once 256 now.1.0 draft.tree less.0 draft.opens less.1.0 now.1.1 in
+    let less = grown_less branches_on 256 (node_at number form) draft.tree _ is.grown in
+    let same : less.0 ≡ draft.opens = grown_once branches_on 256 now.1.0 draft.tree less.0 draft.opens less.1.0 now.1.1 in
     let grown : Grown 256 draft.tree draft.opens = subst (λ w. Grown 256 draft.tree w) same less.1.0 in
     let depth : length draft.opens < 256 = subst (λ w. length w < 256) same less.1.1 in
     let longer : length (draft.tree ++ node_at number form ∷ []) ≡ length draft.tree + 1 = length-append draft.tree (node_at number form ∷ []) in
@@ -177,7 +179,7 @@ limited_before number draft front (say.Node form) past stands is =
     }
 limited_before number draft front say.End past stands is = record { limited = record { names = is.names; steps = is.steps; nodes = is.nodes; grown = is.grown }; fresh = refl; within = refl }
 
-pub limited_back : (lines : List (ℕ × Line)) (draft last : DraftState) (front : List (ℕ × Line)) → Past draft front → Follows draft lines last → Limited last → Limited draft
+pub limited_back : (lines : List (ℕ × CertLine)) (draft last : DraftState) (front : List (ℕ × CertLine)) → Past draft front → Follows draft lines last → Limited last → Limited draft
 limited_back [] draft last front past follows is = subst Limited follows is
 limited_back (line ∷ lines) draft last front past (statement, says, stands, follows) is =
     (limited_before line.0 draft front statement past stands

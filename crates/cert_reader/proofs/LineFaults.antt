@@ -14,29 +14,31 @@ use Rattle.cert_lines.specs.declared.certificates.Node.{Node}
 use Rattle.cert_lines.specs.declared.certificates.NodeForm.{NodeForm}
 use Rattle.cert_lines.specs.declared.certificates.Step.{Step}
 use Rattle.cert_lines.specs.declared.statements.Claim.{Claim}
-use Rattle.cert_lines.specs.declared.statements.Line.{Line}
-use Rattle.cert_lines.specs.declared.statements.Line.TheVariants.{Faulty, Says}
-use Rattle.cert_lines.specs.declared.statements.Origin.{Origin}
+use Rattle.cert_lines.specs.Statements.{CertLine}
+use Rattle.line_words.specs.declared.lines.Line.TheVariants.{Faulty, Says}
+use Rattle.line_words.specs.declared.items.InstanceRef.{InstanceRef}
 use Rattle.cert_lines.specs.declared.statements.Statement.{Statement}
 use Rattle.cert_lines.specs.declared.statements.Statement.TheVariants as say
-use Rattle.cert_reader.specs.Grammar.{HasAbove, HasLineFault, IsPastLimits, Repeats, Stands, claim_of, names_on, nodes_on, said_by_fact, said_by_node, said_by_step}
-use Rattle.cert_reader.specs.Reading.{DraftState, after, amounts_of, is_past_limits, is_repeated, last_fact, may_stand, may_stand_at, names_of, nothing_read, origin_of, origins_of, same_origin, take_statement, takes_steps}
+use Rattle.prefix_trees.specs.Trees.{HasAbove}
+use Rattle.cert_reader.specs.Grammar.{HasLineFault, IsPastLimits, Repeats, Stands, claim_of, names_on, nodes_on, said_by_fact, said_by_node, said_by_step}
+use Rattle.cert_reader.specs.Reading.{DraftState, branches_on, after, amounts_of, is_past_limits, is_repeated, last_fact, may_stand, may_stand_at, names_of, nothing_read, origin_of, origins_of, same_origin, take_statement, takes_steps}
 use Rattle.cert_reader.specs.declared.faults.CertFault.{CertFault}
 use Rattle.cert_reader.specs.declared.faults.CertFault.TheVariants as fault
 use Rattle.cert_reader.specs.declared.stages.Stage.{Stage}
 use Rattle.cert_reader.specs.declared.stages.Stage.TheVariants as stage
 use Rattle.cert_reader.proofs.Limits.{node_open}
 use Rattle.cert_reader.proofs.Orders.{Follows, IsOpen, Past, PastAt, fact_front, follow_front, follow_on, follow_once, follow_stands, stands_follow, tree_front}
-use Rattle.cert_reader.proofs.Trees.{Grown, above_grown, above_open}
+use Rattle.prefix_trees.proofs.Climbs.{above_grown, above_open}
+use Rattle.cert_reader.proofs.Trees.{Grown}
 
 -- a line stands exactly where it may
-pub stands_next : (front : List (ℕ × Line)) (draft : DraftState) (number : ℕ) (statement : Statement) → Follows nothing_read front draft → may_stand draft statement ≡ true
+pub stands_next : (front : List (ℕ × CertLine)) (draft : DraftState) (number : ℕ) (statement : Statement) → Follows nothing_read front draft → may_stand draft statement ≡ true
     → Stands (front ++ (number, Says statement) ∷ [])
 stands_next front draft number statement follows stands =
     stands_follow (front ++ (number, Says statement) ∷ []) (after number draft statement)
     (follow_on nothing_read draft (after number draft statement) front ((number, Says statement) ∷ []) follows (statement, refl, stands, refl))
 
-next_stands : (front : List (ℕ × Line)) (draft : DraftState) (line : ℕ × Line) → Follows nothing_read front draft → Stands (front ++ line ∷ [])
+next_stands : (front : List (ℕ × CertLine)) (draft : DraftState) (line : ℕ × CertLine) → Follows nothing_read front draft → Stands (front ++ line ∷ [])
     → (statement : Statement) × ((line.1 ≡ Says statement) × (may_stand draft statement ≡ true))
 next_stands front draft line follows stands =
     let there = follow_stands (front ++ line ∷ []) stands in
@@ -59,25 +61,25 @@ names_of_lines (fact ∷ facts) =
     ∙ names_of_lines facts)
 
 -- the steps at the end of lines
-trail : List Origin → List (ℕ × Line) → List Origin
+trail : List InstanceRef → List (ℕ × CertLine) → List InstanceRef
 trail found [] = found
 trail found ((number, Says (say.Step step)) ∷ lines) = trail (found ++ step.origin ∷ []) lines
 trail found (line ∷ lines) = trail [] lines
 
-trail_on : (front rest : List (ℕ × Line)) (found : List Origin) → trail found (front ++ rest) ≡ trail (trail found front) rest
+trail_on : (front rest : List (ℕ × CertLine)) (found : List InstanceRef) → trail found (front ++ rest) ≡ trail (trail found front) rest
 unfolding trail
 trail_on [] rest found = refl
 trail_on ((number, Says (say.Step step)) ∷ front) rest found = trail_on front rest (found ++ step.origin ∷ [])
 trail_on (line ∷ front) rest found = trail_on front rest []
 
-trail_steps : (steps : List Step) (found : List Origin) → trail found (map said_by_step steps) ≡ found ++ map origin_of steps
+trail_steps : (steps : List Step) (found : List InstanceRef) → trail found (map said_by_step steps) ≡ found ++ map origin_of steps
 unfolding trail
 trail_steps [] found = sym (append-nil found)
 trail_steps (step ∷ steps) found = trail_steps steps (found ++ origin_of step ∷ []) ∙ append_assoc found (origin_of step ∷ []) (map origin_of steps)
 
 -- the last bound and its steps
 record LastSteps (facts : List Fact) : Type 0 where
-  earlier : List (ℕ × Line)
+  earlier : List (ℕ × CertLine)
   line : ℕ
   name : List ℕ
   said : Claim
@@ -110,7 +112,7 @@ last_steps_of (fact ∷ next ∷ facts) e =
       origins = later.origins;
     }
 
-abbrev head_of : ℕ → ℕ → List ℕ → List (ℕ × Line)
+abbrev head_of : ℕ → ℕ → List ℕ → List (ℕ × CertLine)
 head_of version property id = (version, Says say.Version) ∷ (property, Says (say.Property id)) ∷ []
 
 trail_of : (version property : ℕ) (id : List ℕ) (facts : List Fact) → takes_steps (last_fact facts) ≡ true
@@ -131,9 +133,9 @@ or_true true = refl
 or_true false = refl
 
 -- a line repeats exactly where it is found to
-step_repeats : (version property : ℕ) (id : List ℕ) (facts : List Fact) (origin : Origin) → takes_steps (last_fact facts) ≡ true
+step_repeats : (version property : ℕ) (id : List ℕ) (facts : List Fact) (origin : InstanceRef) → takes_steps (last_fact facts) ≡ true
     → list_any (same_origin origin) (origins_of (last_fact facts)) ≡ true
-    → (earlier : List (ℕ × Line)) × (steps : List Step) × (fact_front version property id facts ≡ earlier ++ map said_by_step steps) × (list_any (same_origin origin) (map origin_of steps) ≡ true)
+    → (earlier : List (ℕ × CertLine)) × (steps : List Step) × (fact_front version property id facts ≡ earlier ++ map said_by_step steps) × (list_any (same_origin origin) (map origin_of steps) ≡ true)
 step_repeats version property id facts origin takes found =
     let last = last_steps_of facts takes in (
       head_of version property id ++ (last.earlier ++ (last.line, Says (say.Fact last.name last.said)) ∷ []),
@@ -142,7 +144,7 @@ step_repeats version property id facts origin takes found =
       subst (λ w. list_any (same_origin origin) w ≡ true) last.origins found,
     )
 
-step_found : (version property : ℕ) (id : List ℕ) (facts : List Fact) (origin : Origin) (earlier : List (ℕ × Line)) (steps : List Step) → takes_steps (last_fact facts) ≡ true
+step_found : (version property : ℕ) (id : List ℕ) (facts : List Fact) (origin : InstanceRef) (earlier : List (ℕ × CertLine)) (steps : List Step) → takes_steps (last_fact facts) ≡ true
     → fact_front version property id facts ≡ earlier ++ map said_by_step steps → list_any (same_origin origin) (map origin_of steps) ≡ true
     → list_any (same_origin origin) (origins_of (last_fact facts)) ≡ true
 step_found version property id facts origin earlier steps takes is found =
@@ -153,10 +155,10 @@ step_found version property id facts origin earlier steps takes is found =
     ∙ ap (λ t. list_any (same_origin origin) (trail [] earlier) || t) found
     ∙ or_true (list_any (same_origin origin) (trail [] earlier))
 
-names_of_front : (version property : ℕ) (front : List (ℕ × Line)) (id : List ℕ) (facts : List Fact) → front ≡ fact_front version property id facts → names_on front ≡ names_of facts
+names_of_front : (version property : ℕ) (front : List (ℕ × CertLine)) (id : List ℕ) (facts : List Fact) → front ≡ fact_front version property id facts → names_on front ≡ names_of facts
 names_of_front version property front id facts is = ap names_on is ∙ names_of_lines facts
 
-pub repeats_at : (at : Stage) (front : List (ℕ × Line)) (id : List ℕ) (facts : List Fact) (tree : List Node) (opens : List ℕ) (statement : Statement)
+pub repeats_at : (at : Stage) (front : List (ℕ × CertLine)) (id : List ℕ) (facts : List Fact) (tree : List Node) (opens : List ℕ) (statement : Statement)
     → PastAt at front id facts tree opens → may_stand_at at facts statement ≡ true
     → is_repeated (record { stage = at; property = id; facts = facts; tree = tree; opens = opens }) statement ≡ true → Repeats front (Says statement)
 repeats_at stage.Facts front id facts tree opens (say.Fact name said) (version, property, is, no_tree, no_opens) stands e =
@@ -176,7 +178,7 @@ repeats_at stage.Nothing front id facts tree opens (say.Fact name said) past sta
 repeats_at stage.Nothing front id facts tree opens (say.Step step) past stands e = absurd (false≢true stands)
 repeats_at at front id facts tree opens statement past stands e = absurd (false≢true e)
 
-pub found_at : (at : Stage) (front : List (ℕ × Line)) (id : List ℕ) (facts : List Fact) (tree : List Node) (opens : List ℕ) (statement : Statement)
+pub found_at : (at : Stage) (front : List (ℕ × CertLine)) (id : List ℕ) (facts : List Fact) (tree : List Node) (opens : List ℕ) (statement : Statement)
     → PastAt at front id facts tree opens → may_stand_at at facts statement ≡ true
     → Repeats front (Says statement) → is_repeated (record { stage = at; property = id; facts = facts; tree = tree; opens = opens }) statement ≡ true
 found_at stage.Facts front id facts tree opens (say.Fact name said) (version, property, is, no_tree, no_opens) stands e =
@@ -211,7 +213,7 @@ nodes_of_nodes : (nodes : List Node) → nodes_on (map said_by_node nodes) ≡ n
 nodes_of_nodes [] = refl
 nodes_of_nodes (node ∷ nodes) = ap (λ w. node ∷ w) (nodes_of_nodes nodes)
 
-nodes_of_front : (version property proof : ℕ) (front : List (ℕ × Line)) (id : List ℕ) (facts : List Fact) (tree : List Node)
+nodes_of_front : (version property proof : ℕ) (front : List (ℕ × CertLine)) (id : List ℕ) (facts : List Fact) (tree : List Node)
     → front ≡ tree_front version property proof id facts tree → nodes_on front ≡ tree
 nodes_of_front version property proof front id facts tree is =
     ap nodes_on is
@@ -224,28 +226,28 @@ or_either : (a b : Bool) → (a || b) ≡ true → (a ≡ true) ⊎ (b ≡ true)
 or_either true b e = inl refl
 or_either false b e = inr e
 
-above_of : (most : ℕ) (tree : List Node) (opens : List ℕ) → IsOpen tree opens → Grown most tree opens → HasAbove (length opens) tree
-above_of most [] opens is grown = subst (λ w. HasAbove (length w) []) (sym is) refl
+above_of : (most : ℕ) (tree : List Node) (opens : List ℕ) → IsOpen tree opens → Grown most tree opens → HasAbove branches_on (length opens) tree
+above_of most [] opens is grown = subst (λ w. HasAbove branches_on (length w) []) (sym is) refl
 above_of most (root ∷ nodes) opens (count, counts, is) grown =
-    subst (λ w. HasAbove (length w) (root ∷ nodes)) (sym is) (above_open most (suc count) counts root nodes (subst (λ w. Grown most (root ∷ nodes) w) is grown))
+    subst (λ w. HasAbove branches_on (length w) (root ∷ nodes)) (sym is) (above_open branches_on most (suc count) counts root nodes (subst (λ w. Grown most (root ∷ nodes) w) is grown))
 
 past_limits : (most : ℕ) (tree : List Node) (opens : List ℕ) → IsOpen tree opens → Grown most tree opens → (nat_le (2 ^ 20) (length tree) || nat_le 256 (length opens)) ≡ true
-    → (2 ^ 20 ≤ length tree) ⊎ ((above : ℕ) × (256 ≤ above) × HasAbove above tree)
+    → (2 ^ 20 ≤ length tree) ⊎ ((above : ℕ) × (256 ≤ above) × HasAbove branches_on above tree)
 past_limits most tree opens is grown e = by (or_either (nat_le (2 ^ 20) (length tree)) (nat_le 256 (length opens)) e)
   where
-    by : (nat_le (2 ^ 20) (length tree) ≡ true) ⊎ (nat_le 256 (length opens) ≡ true) → (2 ^ 20 ≤ length tree) ⊎ ((above : ℕ) × (256 ≤ above) × HasAbove above tree)
+    by : (nat_le (2 ^ 20) (length tree) ≡ true) ⊎ (nat_le 256 (length opens) ≡ true) → (2 ^ 20 ≤ length tree) ⊎ ((above : ℕ) × (256 ≤ above) × HasAbove branches_on above tree)
     by (inl many) = inl (leb-true (2 ^ 20) (length tree) many)
     by (inr deep) = inr (length opens, leb-true 256 (length opens) deep, above_of most tree opens is grown)
 
-limits_past : (most : ℕ) (tree : List Node) (opens : List ℕ) → Grown most tree opens → (2 ^ 20 ≤ length tree) ⊎ ((above : ℕ) × (256 ≤ above) × HasAbove above tree)
+limits_past : (most : ℕ) (tree : List Node) (opens : List ℕ) → Grown most tree opens → (2 ^ 20 ≤ length tree) ⊎ ((above : ℕ) × (256 ≤ above) × HasAbove branches_on above tree)
     → (nat_le (2 ^ 20) (length tree) || nat_le 256 (length opens)) ≡ true
 limits_past most tree opens grown (inl many) = ap (λ t. t || nat_le 256 (length opens)) (le-leb (2 ^ 20) (length tree) many)
 limits_past most tree opens grown (inr (above, deep, has)) =
-    let same : length opens ≡ above = above_grown most above tree opens has grown in
+    let same : length opens ≡ above = above_grown branches_on most above tree opens has grown in
     let below : 256 ≤ length opens = omega (arith, same, deep) in
     ap (λ t. nat_le (2 ^ 20) (length tree) || t) (le-leb 256 (length opens) below) ∙ or_true (nat_le (2 ^ 20) (length tree))
 
-node_front : (at : Stage) (front : List (ℕ × Line)) (id : List ℕ) (facts : List Fact) (tree : List Node) (opens : List ℕ) (form : NodeForm)
+node_front : (at : Stage) (front : List (ℕ × CertLine)) (id : List ℕ) (facts : List Fact) (tree : List Node) (opens : List ℕ) (form : NodeForm)
     → PastAt at front id facts tree opens → may_stand_at at facts (say.Node form) ≡ true → nodes_on front ≡ tree
 node_front stage.Version front id facts tree opens form past e = absurd (false≢true e)
 node_front stage.Property front id facts tree opens form past e = absurd (false≢true e)
@@ -254,26 +256,26 @@ node_front stage.Tree front id facts tree opens form past e = nodes_of_front pas
 node_front stage.End front id facts tree opens form past e = absurd (false≢true e)
 node_front stage.Nothing front id facts tree opens form past e = absurd (false≢true e)
 
-pub limits_at : (front : List (ℕ × Line)) (draft : DraftState) (statement : Statement) → Past draft front → may_stand draft statement ≡ true
+pub limits_at : (front : List (ℕ × CertLine)) (draft : DraftState) (statement : Statement) → Past draft front → may_stand draft statement ≡ true
     → is_past_limits draft statement ≡ true → IsPastLimits front (Says statement)
 limits_at front draft (say.Node form) past stands e =
     let now = node_open draft.stage front draft.property draft.facts draft.tree draft.opens form past stands in
-    subst (λ w. (2 ^ 20 ≤ length w) ⊎ ((above : ℕ) × (256 ≤ above) × HasAbove above w))
+    subst (λ w. (2 ^ 20 ≤ length w) ⊎ ((above : ℕ) × (256 ≤ above) × HasAbove branches_on above w))
     (sym (node_front draft.stage front draft.property draft.facts draft.tree draft.opens form past stands))
     (past_limits now.1.0 draft.tree draft.opens now.0 now.1.1 e)
 limits_at front draft statement past stands e = absurd (false≢true e)
 
-pub at_limits : (front : List (ℕ × Line)) (draft : DraftState) (statement : Statement) → Past draft front → may_stand draft statement ≡ true
+pub at_limits : (front : List (ℕ × CertLine)) (draft : DraftState) (statement : Statement) → Past draft front → may_stand draft statement ≡ true
     → IsPastLimits front (Says statement) → is_past_limits draft statement ≡ true
 at_limits front draft (say.Node form) past stands e =
     let now = node_open draft.stage front draft.property draft.facts draft.tree draft.opens form past stands in
     limits_past now.1.0 draft.tree draft.opens now.1.1
-    (subst (λ w. (2 ^ 20 ≤ length w) ⊎ ((above : ℕ) × (256 ≤ above) × HasAbove above w))
+    (subst (λ w. (2 ^ 20 ≤ length w) ⊎ ((above : ℕ) × (256 ≤ above) × HasAbove branches_on above w))
     (node_front draft.stage front draft.property draft.facts draft.tree draft.opens form past stands) e)
 at_limits front draft statement past stands e = absurd e
 
 -- the fault of a line
-pub faulty_fault : (front : List (ℕ × Line)) (draft : DraftState) (number : ℕ) → Follows nothing_read front draft → HasLineFault front (number, Faulty) (fault.Line number)
+pub faulty_fault : (front : List (ℕ × CertLine)) (draft : DraftState) (number : ℕ) → Follows nothing_read front draft → HasLineFault front (number, Faulty) (fault.Line number)
 faulty_fault front draft number follows = (refl, λ stands. by (next_stands front draft (number, Faulty) follows stands))
   where
     by : (statement : Statement) × ((Faulty ≡ Says statement) × (may_stand draft statement ≡ true)) → ⊥
@@ -282,13 +284,13 @@ faulty_fault front draft number follows = (refl, λ stands. by (next_stands fron
 says_same : (one other : Statement) → Says one ≡ Says other → one ≡ other
 says_same one other e = cc
 
-may_next : (front : List (ℕ × Line)) (draft : DraftState) (number : ℕ) (statement : Statement) → Follows nothing_read front draft
+may_next : (front : List (ℕ × CertLine)) (draft : DraftState) (number : ℕ) (statement : Statement) → Follows nothing_read front draft
     → Stands (front ++ (number, Says statement) ∷ []) → may_stand draft statement ≡ true
 may_next front draft number statement follows stands =
     let next = next_stands front draft (number, Says statement) follows stands in
     subst (λ s. may_stand draft s ≡ true) (sym (says_same statement next.0 next.1.0)) next.1.1
 
-pub line_fault : (front : List (ℕ × Line)) (draft : DraftState) (number : ℕ) (statement : Statement) (refusal : CertFault) → Follows nothing_read front draft → Past draft front
+pub line_fault : (front : List (ℕ × CertLine)) (draft : DraftState) (number : ℕ) (statement : Statement) (refusal : CertFault) → Follows nothing_read front draft → Past draft front
     → take_statement number draft statement ≡ Err refusal → HasLineFault front (number, Says statement) refusal
 line_fault front draft number statement refusal follows past e =
     by (may_stand draft statement) (is_repeated draft statement) (are_past (amounts_of statement)) (is_past_limits draft statement) refl refl refl refl e
@@ -316,7 +318,7 @@ line_fault front draft number statement refusal follows past e =
         (refl, stands_next front draft number statement follows is, unrepeated is repeated, sums, limits_at front draft statement past is limit)
     by true false false false is repeated sums limit e = absurd (cc)
 
-pub no_line_fault : (front : List (ℕ × Line)) (draft : DraftState) (number : ℕ) (statement : Statement) (refusal : CertFault) → Follows nothing_read front draft → Past draft front
+pub no_line_fault : (front : List (ℕ × CertLine)) (draft : DraftState) (number : ℕ) (statement : Statement) (refusal : CertFault) → Follows nothing_read front draft → Past draft front
     → may_stand draft statement ≡ true → is_repeated draft statement ≡ false → are_past (amounts_of statement) ≡ false → is_past_limits draft statement ≡ false
     → HasLineFault front (number, Says statement) refusal → ⊥
 no_line_fault front draft number statement (fault.Line n) follows past stands fresh small within (is, not) = not (stands_next front draft number statement follows stands)

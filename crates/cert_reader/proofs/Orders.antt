@@ -14,21 +14,23 @@ use Rattle.cert_lines.specs.declared.certificates.NodeForm.TheVariants.{Close}
 use Rattle.cert_lines.specs.declared.certificates.Step.{Step}
 use Rattle.cert_lines.specs.declared.statements.Claim.{Claim}
 use Rattle.cert_lines.specs.declared.statements.Claim.TheVariants as claim
-use Rattle.cert_lines.specs.declared.statements.Line.{Line}
-use Rattle.cert_lines.specs.declared.statements.Line.TheVariants.{Says}
+use Rattle.cert_lines.specs.Statements.{CertLine}
+use Rattle.line_words.specs.declared.lines.Line.TheVariants.{Says}
 use Rattle.cert_lines.specs.declared.statements.Statement.{Statement}
 use Rattle.cert_lines.specs.declared.statements.Statement.TheVariants as say
 use Rattle.cert_lines.specs.declared.statements.StepClaim.{StepClaim}
 use Rattle.cert_lines.specs.Texts.{steps_of}
 use Rattle.cert_reader.specs.Grammar.{IsInOrder, IsSomeTree, IsTree, Stands, claim_of, said_by_fact, said_by_node, said_by_step}
-use Rattle.cert_reader.specs.Reading.{DraftState, after, branches_of, cert_of, fact_at, grown, is_bound, kind_of, last_fact, may_stand, may_stand_at, node_at, nothing_read, opens_after, stage_after, step_at, stepped, still_open, takes_steps, with_step}
+use Rattle.prefix_trees.specs.Trees.{opens_after, still_open}
+use Rattle.cert_reader.specs.Reading.{DraftState, after, branches_of, branches_on, cert_of, fact_at, grown, is_bound, kind_of, last_fact, may_stand, may_stand_at, node_at, nothing_read, stage_after, step_at, stepped, takes_steps, with_step}
 use Rattle.cert_reader.specs.declared.stages.Stage.{Stage}
 use Rattle.cert_reader.specs.declared.stages.Stage.TheVariants as stage
 use Rattle.cert_reader.proofs.FactLists.{last_of_grown, with_step_of_grown}
-use Rattle.cert_reader.proofs.Trees.{Climbs, Grown, grown_more, grown_tree, grown_wider, one_less_than, tree_grown}
+use Rattle.prefix_trees.proofs.Climbs.{grown_more, grown_tree, grown_wider, one_less_than, tree_grown}
+use Rattle.cert_reader.proofs.Trees.{Climbs, Grown}
 
 -- a draft that goes on over lines, by their order alone
-abbrev pub Follows : DraftState → List (ℕ × Line) → DraftState → Type 0
+abbrev pub Follows : DraftState → List (ℕ × CertLine) → DraftState → Type 0
 Follows draft [] last = last ≡ draft
 Follows draft (line ∷ lines) last =
     (statement : Statement)
@@ -36,11 +38,11 @@ Follows draft (line ∷ lines) last =
     × (may_stand draft statement ≡ true)
     × Follows (after line.0 draft statement) lines last
 
-pub follow_on : (draft middle last : DraftState) (front rest : List (ℕ × Line)) → Follows draft front middle → Follows middle rest last → Follows draft (front ++ rest) last
+pub follow_on : (draft middle last : DraftState) (front rest : List (ℕ × CertLine)) → Follows draft front middle → Follows middle rest last → Follows draft (front ++ rest) last
 follow_on draft middle last [] rest a b = subst (λ d. Follows d rest last) a b
 follow_on draft middle last (line ∷ front) rest (statement, is, stands, a) b = (statement, is, stands, follow_on (after line.0 draft statement) middle last front rest a b)
 
-pub follow_front : (draft last : DraftState) (front rest : List (ℕ × Line)) → Follows draft (front ++ rest) last → (middle : DraftState) × (Follows draft front middle × Follows middle rest last)
+pub follow_front : (draft last : DraftState) (front rest : List (ℕ × CertLine)) → Follows draft (front ++ rest) last → (middle : DraftState) × (Follows draft front middle × Follows middle rest last)
 follow_front draft last [] rest a = (draft, (refl, a))
 follow_front draft last (line ∷ front) rest (statement, is, stands, a) =
     let later = follow_front (after line.0 draft statement) last front rest a in
@@ -49,7 +51,7 @@ follow_front draft last (line ∷ front) rest (statement, is, stands, a) =
 says_one : (one other : Statement) → Says one ≡ Says other → one ≡ other
 says_one one other e = cc
 
-pub follow_once : (draft one other : DraftState) (lines : List (ℕ × Line)) → Follows draft lines one → Follows draft lines other → one ≡ other
+pub follow_once : (draft one other : DraftState) (lines : List (ℕ × CertLine)) → Follows draft lines one → Follows draft lines other → one ≡ other
 follow_once draft one other [] a b = a ∙ sym b
 follow_once draft one other (line ∷ lines) (statement, is, stands, a) (again, is_again, stands_again, b) =
     follow_once (after line.0 draft statement) one other lines a
@@ -60,10 +62,10 @@ abbrev pub at : Stage → List ℕ → List Fact → List Node → List ℕ → 
 at stage id facts tree opens = record { stage = stage; property = id; facts = facts; tree = tree; opens = opens }
 
 -- the lines up to the facts, and up to the nodes
-abbrev pub fact_front : ℕ → ℕ → List ℕ → List Fact → List (ℕ × Line)
+abbrev pub fact_front : ℕ → ℕ → List ℕ → List Fact → List (ℕ × CertLine)
 fact_front version property id facts = (version, Says say.Version) ∷ (property, Says (say.Property id)) ∷ flat_map said_by_fact facts
 
-abbrev pub tree_front : ℕ → ℕ → ℕ → List ℕ → List Fact → List Node → List (ℕ × Line)
+abbrev pub tree_front : ℕ → ℕ → ℕ → List ℕ → List Fact → List Node → List (ℕ × CertLine)
 tree_front version property proof id facts tree =
     (version, Says say.Version) ∷ (property, Says (say.Property id)) ∷ (flat_map said_by_fact facts ++ (proof, Says say.Proof) ∷ map said_by_node tree)
 
@@ -73,7 +75,7 @@ IsOpen [] opens = opens ≡ []
 IsOpen (root ∷ nodes) opens = (count : ℕ) × (counts : List ℕ) × (opens ≡ suc count ∷ counts)
 
 -- the lines that have been read
-abbrev pub PastAt : Stage → List (ℕ × Line) → List ℕ → List Fact → List Node → List ℕ → Type 0
+abbrev pub PastAt : Stage → List (ℕ × CertLine) → List ℕ → List Fact → List Node → List ℕ → Type 0
 PastAt stage.Version front id facts tree opens = (front ≡ []) × (facts ≡ []) × (tree ≡ []) × (opens ≡ [])
 PastAt stage.Property front id facts tree opens =
     (version : ℕ) × (front ≡ (version, Says say.Version) ∷ []) × (facts ≡ []) × (tree ≡ []) × (opens ≡ [])
@@ -96,7 +98,7 @@ PastAt stage.End front id facts tree opens =
 PastAt stage.Nothing front id facts tree opens =
     IsInOrder front (record { property = id; facts = facts; tree = tree }) × (opens ≡ []) × IsSomeTree tree
 
-abbrev pub Past : DraftState → List (ℕ × Line) → Type 0
+abbrev pub Past : DraftState → List (ℕ × CertLine) → Type 0
 Past draft front = PastAt draft.stage front draft.property draft.facts draft.tree draft.opens
 
 pub past_nothing : Past nothing_read []
@@ -124,7 +126,7 @@ more_facts number name said facts =
     flat_map-append said_by_fact facts (fact_at number name said ∷ [])
     ∙ ap (λ w. flat_map said_by_fact facts ++ w) (append-nil (said_by_fact (fact_at number name said)) ∙ fact_begun number name said)
 
-abbrev step_line : ℕ → StepClaim → ℕ × Line
+abbrev step_line : ℕ → StepClaim → ℕ × CertLine
 step_line number step = (number, Says (say.Step step))
 
 more_steps : (number line : ℕ) (name : List ℕ) (kind : FactKind) (step : StepClaim) → is_bound kind ≡ true
@@ -161,24 +163,24 @@ grown_node (root ∷ nodes) opens node (count, counts, is) most grown =
     let there = subst (λ w. Grown most (root ∷ nodes) w) is grown in (
       wide,
       subst (λ w. Grown wide ((root ∷ nodes) ++ node ∷ []) (opens_after (branches_of node.form) w)) (sym is)
-          (grown_more wide node (suc count) counts (root ∷ nodes) (omega arith) (grown_wider most wide (omega arith) (root ∷ nodes) (suc count ∷ counts) there)),
+          (grown_more branches_on wide node (suc count) counts (root ∷ nodes) (omega arith) (grown_wider branches_on most wide (omega arith) (root ∷ nodes) (suc count ∷ counts) there)),
     )
 
 some_more : (tree : List Node) (node : Node) → (root : Node) × ((nodes : List Node) × (tree ++ node ∷ [] ≡ root ∷ nodes))
 some_more [] node = (node, ([], refl))
 some_more (root ∷ nodes) node = (root, (nodes ++ node ∷ [], refl))
 
-past_node : (version property proof : ℕ) (front : List (ℕ × Line)) (id : List ℕ) (facts : List Fact) (tree : List Node) (opens : List ℕ)
+past_node : (version property proof : ℕ) (front : List (ℕ × CertLine)) (id : List ℕ) (facts : List Fact) (tree : List Node) (opens : List ℕ)
     → front ≡ tree_front version property proof id facts tree → (most : ℕ) → (root : Node) (nodes : List Node) → tree ≡ root ∷ nodes
     → Grown most tree (still_open opens) → PastAt (stage_after (still_open opens)) front id facts tree (still_open opens)
 past_node version property proof front id facts tree [] is most root nodes some grown =
-    (version, property, proof, is, refl, (most, subst (IsTree most) (sym some) (tree_grown most root nodes (subst (λ w. Grown most w []) some grown))))
+    (version, property, proof, is, refl, (most, subst (IsTree most) (sym some) (tree_grown branches_on most root nodes (subst (λ w. Grown most w []) some grown))))
 past_node version property proof front id facts tree (zero ∷ counts) is most root nodes some grown =
     past_node version property proof front id facts tree counts is most root nodes some grown
 past_node version property proof front id facts tree (suc count ∷ counts) is most root nodes some grown =
     (version, property, proof, is, subst (λ w. IsOpen w (suc count ∷ counts)) (sym some) (count, counts, refl), (most, grown))
 
-past_at : (number : ℕ) (stage : Stage) (id : List ℕ) (facts : List Fact) (tree : List Node) (opens : List ℕ) (front : List (ℕ × Line)) (statement : Statement)
+past_at : (number : ℕ) (stage : Stage) (id : List ℕ) (facts : List Fact) (tree : List Node) (opens : List ℕ) (front : List (ℕ × CertLine)) (statement : Statement)
     → PastAt stage front id facts tree opens → may_stand_at stage facts statement ≡ true
     → Past (after number (at stage id facts tree opens) statement) (front ++ (number, Says statement) ∷ [])
 past_at number stage.Version id facts tree opens front say.Version (is, no_facts, no_tree, no_opens) e =
@@ -264,11 +266,11 @@ past_at number stage.End id facts tree opens front say.Proof past e = absurd (fa
 past_at number stage.End id facts tree opens front (say.Node form) past e = absurd (false≢true e)
 past_at number stage.Nothing id facts tree opens front statement past e = absurd (false≢true e)
 
-pub past_after : (number : ℕ) (draft : DraftState) (front : List (ℕ × Line)) (statement : Statement) → Past draft front → may_stand draft statement ≡ true
+pub past_after : (number : ℕ) (draft : DraftState) (front : List (ℕ × CertLine)) (statement : Statement) → Past draft front → may_stand draft statement ≡ true
     → Past (after number draft statement) (front ++ (number, Says statement) ∷ [])
 past_after number draft front statement past e = past_at number draft.stage draft.property draft.facts draft.tree draft.opens front statement past e
 
-pub past_lines : (draft last : DraftState) (front lines : List (ℕ × Line)) → Past draft front → Follows draft lines last → Past last (front ++ lines)
+pub past_lines : (draft last : DraftState) (front lines : List (ℕ × CertLine)) → Past draft front → Follows draft lines last → Past last (front ++ lines)
 past_lines draft last front [] past follows = subst (λ w. Past last w) (sym (append-nil front)) (subst (λ d. Past d front) (sym follows) past)
 past_lines draft last front (line ∷ lines) past (statement, is, stands, follows) =
     subst (λ w. Past last w) (append_assoc front (line ∷ []) lines)
@@ -277,7 +279,7 @@ past_lines draft last front (line ∷ lines) past (statement, is, stands, follow
     follows)
 
 -- lines in order can be followed
-follow_steps : (line : ℕ) (name : List ℕ) (limit : _) (weights : _) (facts : List Fact) (id : List ℕ) (last : DraftState) (rest : List (ℕ × Line)) (done steps : List Step)
+follow_steps : (line : ℕ) (name : List ℕ) (limit : _) (weights : _) (facts : List Fact) (id : List ℕ) (last : DraftState) (rest : List (ℕ × CertLine)) (done steps : List Step)
     → Follows (at stage.Facts id (facts ++ record { line = line; name = name; kind = Bound limit weights (done ++ steps) } ∷ []) [] []) rest last
     → Follows (at stage.Facts id (facts ++ record { line = line; name = name; kind = Bound limit weights done } ∷ []) [] []) (map said_by_step steps ++ rest) last
 follow_steps line name limit weights facts id last rest done [] follows =
@@ -292,7 +294,7 @@ follow_steps line name limit weights facts id last rest done (step ∷ steps) fo
       subst (λ fs. Follows (at stage.Facts id fs [] []) (map said_by_step steps ++ rest) last) (sym (with_step_of_grown facts fact step)) again,
     )
 
-follow_fact : (fact : Fact) (facts : List Fact) (id : List ℕ) (last : DraftState) (rest : List (ℕ × Line))
+follow_fact : (fact : Fact) (facts : List Fact) (id : List ℕ) (last : DraftState) (rest : List (ℕ × CertLine))
     → Follows (at stage.Facts id (facts ++ fact ∷ []) [] []) rest last → Follows (at stage.Facts id facts [] []) (said_by_fact fact ++ rest) last
 follow_fact fact facts id last rest follows = by fact.kind follows
   where
@@ -302,7 +304,7 @@ follow_fact fact facts id last rest follows = by fact.kind follows
     by (Trap places) follows = (_, refl, refl, follows)
     by (Bound limit weights steps) follows = (_, refl, refl, follow_steps fact.line fact.name limit weights facts id last rest [] steps follows)
 
-follow_facts : (more facts : List Fact) (id : List ℕ) (last : DraftState) (rest : List (ℕ × Line))
+follow_facts : (more facts : List Fact) (id : List ℕ) (last : DraftState) (rest : List (ℕ × CertLine))
     → Follows (at stage.Facts id (facts ++ more) [] []) rest last → Follows (at stage.Facts id facts [] []) (flat_map said_by_fact more ++ rest) last
 follow_facts [] facts id last rest follows = subst (λ fs. Follows (at stage.Facts id fs [] []) rest last) (append-nil facts) follows
 follow_facts (fact ∷ more) facts id last rest follows =
@@ -311,7 +313,7 @@ follow_facts (fact ∷ more) facts id last rest follows =
     (follow_facts more (facts ++ fact ∷ []) id last rest
     (subst (λ fs. Follows (at stage.Facts id fs [] []) rest last) (sym (append_assoc facts (fact ∷ []) more)) follows)))
 
-follow_climb : (most : ℕ) (nodes tree : List Node) (opens : List ℕ) (id : List ℕ) (facts : List Fact) (last : DraftState) (rest : List (ℕ × Line))
+follow_climb : (most : ℕ) (nodes tree : List Node) (opens : List ℕ) (id : List ℕ) (facts : List Fact) (last : DraftState) (rest : List (ℕ × CertLine))
     → Climbs most opens nodes [] → Follows (at stage.End id facts (tree ++ nodes) []) rest last
     → Follows (at (stage_after opens) id facts tree opens) (map said_by_node nodes ++ rest) last
 follow_climb most [] tree opens id facts last rest climbs follows =
@@ -324,7 +326,7 @@ follow_climb most (node ∷ nodes) tree (count ∷ counts) id facts last rest cl
   follow_climb most nodes (tree ++ node ∷ []) _ id facts last rest climbs.1 (subst (λ w. Follows (at stage.End id facts w []) rest last) (sym (append_assoc tree (node ∷ []) nodes)) follows),
 )
 
-follow_tree : (most : ℕ) (tree : List Node) (id : List ℕ) (facts : List Fact) (last : DraftState) (rest : List (ℕ × Line))
+follow_tree : (most : ℕ) (tree : List Node) (id : List ℕ) (facts : List Fact) (last : DraftState) (rest : List (ℕ × CertLine))
     → IsTree most tree → Grown most tree [] → Follows (at stage.End id facts tree []) rest last → Follows (at stage.Tree id facts [] []) (map said_by_node tree ++ rest) last
 follow_tree zero [] id facts last rest is grown follows = absurd is
 follow_tree (suc most) [] id facts last rest is grown follows = absurd (let never : (x : Node) (xs : List Node) → [] ≡ x ∷ xs → ⊥ = λ x xs e. cc in never _ _ is.2)
@@ -338,7 +340,7 @@ follow_tree most (root ∷ nodes) id facts last rest is grown follows = (
 abbrev pub whole : Cert → DraftState
 whole cert = at stage.Nothing cert.property cert.facts cert.tree []
 
-pub follow_order : (lines : List (ℕ × Line)) (cert : Cert) (depth : ℕ) → IsInOrder lines cert → IsTree depth cert.tree → Follows nothing_read lines (whole cert)
+pub follow_order : (lines : List (ℕ × CertLine)) (cert : Cert) (depth : ℕ) → IsInOrder lines cert → IsTree depth cert.tree → Follows nothing_read lines (whole cert)
 follow_order lines cert depth (version, property, proof, end, is) tree =
     subst (λ w. Follows nothing_read w (whole cert)) (sym is) (
       say.Version,
@@ -352,14 +354,14 @@ follow_order lines cert depth (version, property, proof, end, is) tree =
           say.Proof,
           refl,
           refl,
-          follow_tree depth cert.tree cert.property cert.facts (whole cert) ((end, Says say.End) ∷ []) tree (grown_tree depth cert.tree tree) (say.End, refl, refl, refl),
+          follow_tree depth cert.tree cert.property cert.facts (whole cert) ((end, Says say.End) ∷ []) tree (grown_tree branches_on depth cert.tree tree) (say.End, refl, refl, refl),
         ),
       ),
     )
 
 -- and every draft can be followed to an end
 abbrev Ends : DraftState → Type 0
-Ends draft = (rest : List (ℕ × Line)) × ((last : DraftState) × (Follows draft rest last × (last.stage ≡ stage.Nothing)))
+Ends draft = (rest : List (ℕ × CertLine)) × ((last : DraftState) × (Follows draft rest last × (last.stage ≡ stage.Nothing)))
 
 abbrev EndsAt : List ℕ → Type 0
 EndsAt opens = (id : List ℕ) (facts : List Fact) (tree : List Node) → Ends (at (stage_after (still_open opens)) id facts tree (still_open opens))
@@ -372,7 +374,7 @@ ends_count counts ends zero = ends
 ends_count counts ends (suc count) = λ id facts tree.
     let node = node_at 0 closing in
     let later : Ends (at (stage_after (still_open ((suc count - 1) ∷ counts))) id facts (tree ++ node ∷ []) (still_open ((suc count - 1) ∷ counts))) =
-    subst (λ n. Ends (at (stage_after (still_open (n ∷ counts))) id facts (tree ++ node ∷ []) (still_open (n ∷ counts)))) (sym (one_less_than count)) (ends_count counts ends count id facts (tree ++ node ∷ [])) in
+    subst (λ n. Ends (at (stage_after (still_open (n ∷ counts))) id facts (tree ++ node ∷ []) (still_open (n ∷ counts)))) (sym (one_less_than branches_on count)) (ends_count counts ends count id facts (tree ++ node ∷ [])) in
     ((0, Says (say.Node closing)) ∷ later.0, (later.1.0, ((say.Node closing, refl, refl, later.1.1.0), later.1.1.1)))
 
 ends_opens : (opens : List ℕ) → EndsAt opens
@@ -399,7 +401,7 @@ ends_property id facts tree =
     let later = ends_facts [] facts tree in
     ((0, Says (say.Property [])) ∷ later.0, (later.1.0, ((say.Property [], refl, refl, later.1.1.0), later.1.1.1)))
 
-ends_at : (stage : Stage) (front : List (ℕ × Line)) (id : List ℕ) (facts : List Fact) (tree : List Node) (opens : List ℕ)
+ends_at : (stage : Stage) (front : List (ℕ × CertLine)) (id : List ℕ) (facts : List Fact) (tree : List Node) (opens : List ℕ)
     → PastAt stage front id facts tree opens → Ends (at stage id facts tree opens)
 ends_at stage.Version front id facts tree opens past =
     subst (λ w. Ends (at stage.Version id facts tree w)) (sym past.3)
@@ -411,18 +413,18 @@ ends_at stage.Tree front id facts tree opens past = ends_open id facts tree open
 ends_at stage.End front id facts tree opens past = subst (λ w. Ends (at stage.End id facts tree w)) (sym past.4) (ends_opens [] id facts tree)
 ends_at stage.Nothing front id facts tree opens past = ([], (_, (refl, refl)))
 
-pub order_past : (last : DraftState) (lines : List (ℕ × Line)) → last.stage ≡ stage.Nothing → Past last lines → IsInOrder lines (cert_of last) × IsSomeTree last.tree
+pub order_past : (last : DraftState) (lines : List (ℕ × CertLine)) → last.stage ≡ stage.Nothing → Past last lines → IsInOrder lines (cert_of last) × IsSomeTree last.tree
 order_past last lines is past =
     let there = subst (λ s. PastAt s lines last.property last.facts last.tree last.opens) is past in
     (there.0, there.2)
 
 -- lines stand exactly where they can be followed
-pub follow_stands : (front : List (ℕ × Line)) → Stands front → (middle : DraftState) × Follows nothing_read front middle
+pub follow_stands : (front : List (ℕ × CertLine)) → Stands front → (middle : DraftState) × Follows nothing_read front middle
 follow_stands front (rest, cert, order, (depth, tree)) =
     let parts = follow_front nothing_read (whole cert) front rest (follow_order (front ++ rest) cert depth order tree) in
     (parts.0, parts.1.0)
 
-pub stands_follow : (front : List (ℕ × Line)) (middle : DraftState) → Follows nothing_read front middle → Stands front
+pub stands_follow : (front : List (ℕ × CertLine)) (middle : DraftState) → Follows nothing_read front middle → Stands front
 stands_follow front middle follows =
     let past = past_lines nothing_read middle [] front past_nothing follows in
     let ends = ends_at middle.stage front middle.property middle.facts middle.tree middle.opens past in

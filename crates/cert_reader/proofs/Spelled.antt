@@ -4,24 +4,25 @@ use Rattle.std.specs.Prelude.{if◌then◌else◌}
 use Rattle.std.specs.List.{AllByRecursion, IsDistinct}
 use Rattle.cert_lines.specs.Statements.{line_of}
 use Rattle.cert_lines.specs.Sums.{are_past}
-use Rattle.cert_lines.specs.Words.{lines_of}
+use Rattle.line_words.specs.Words.{lines_of}
 use Rattle.cert_lines.specs.declared.certificates.Cert.{Cert}
 use Rattle.cert_lines.specs.declared.certificates.Node.{Node}
-use Rattle.cert_lines.specs.declared.statements.Line.{Line}
-use Rattle.cert_lines.specs.declared.statements.Line.TheVariants.{Passed, Faulty, Says}
+use Rattle.cert_lines.specs.Statements.{CertLine}
+use Rattle.line_words.specs.declared.lines.Line.TheVariants.{Passed, Faulty, Says}
 use Rattle.cert_lines.specs.declared.statements.Statement.{Statement}
 use Rattle.cert_reader.specs.Grammar.{IsSomeTree, IsTree, Spells, amounts_on, spoken, spoken_from, unless_passed}
-use Rattle.cert_reader.specs.Reading.{DraftState, after, amounts_of, cert_of, certificate_of, finished_at, going_on, is_past_limits, is_repeated, may_stand, nothing_read, read_lines, take_said, take_statement}
+use Rattle.cert_reader.specs.Reading.{DraftState, branches_on, after, amounts_of, cert_of, certificate_of, finished_at, going_on, is_past_limits, is_repeated, may_stand, nothing_read, read_lines, take_said, take_statement}
 use Rattle.cert_reader.specs.declared.faults.CertFault.{CertFault}
 use Rattle.cert_reader.specs.declared.faults.CertFault.TheVariants as fault
 use Rattle.cert_reader.specs.declared.stages.Stage.{Stage}
 use Rattle.cert_reader.specs.declared.stages.Stage.TheVariants as stage
 use Rattle.cert_reader.proofs.Limits.{Limited, limited_after, limited_back, limited_before}
 use Rattle.cert_reader.proofs.Orders.{Follows, Past, PastAt, follow_order, order_past, past_after, past_lines, past_nothing, whole}
-use Rattle.cert_reader.proofs.Trees.{Grown, grown_tree, tree_grown}
+use Rattle.prefix_trees.proofs.Climbs.{grown_tree, tree_grown}
+use Rattle.cert_reader.proofs.Trees.{Grown}
 use Rattle.cert_reader.proofs.Unnumbered.{IsTaken, taken}
 
-abbrev IsSmall : ℕ × Line → Type 0
+abbrev IsSmall : ℕ × CertLine → Type 0
 IsSmall line = are_past (amounts_on line.1) ≡ false
 
 pub nothing_limited : Limited nothing_read
@@ -38,7 +39,7 @@ passes number draft statement stands fresh small within =
     ∙ ap (λ t. if t then Err (fault.CertLimit number) else Ok (after number draft statement)) within
 
 -- lines that give a certificate
-pub record AreRead (draft : DraftState) (lines : List (ℕ × Line)) (cert : Cert) : Type 0 where
+pub record AreRead (draft : DraftState) (lines : List (ℕ × CertLine)) (cert : Cert) : Type 0 where
   pub last : DraftState
   pub follows : Follows draft lines last
   pub over : last.stage ≡ stage.Nothing
@@ -54,7 +55,7 @@ finished_ok stage.Tree number draft cert is e = absurd (cc)
 finished_ok stage.End number draft cert is e = absurd (cc)
 finished_ok stage.Nothing number draft cert is e = (is, cc)
 
-read_more : (number : ℕ) (draft : DraftState) (front lines : List (ℕ × Line)) (cert : Cert) (statement : Statement) → Past draft front → Limited draft
+read_more : (number : ℕ) (draft : DraftState) (front lines : List (ℕ × CertLine)) (cert : Cert) (statement : Statement) → Past draft front → Limited draft
     → IsTaken number draft statement (after number draft statement) → AreRead (after number draft statement) lines cert → AreRead draft ((number, Says statement) ∷ lines) cert
 read_more number draft front lines cert statement past limited is read = record {
   last = read.last;
@@ -65,15 +66,15 @@ read_more number draft front lines cert statement past limited is read = record 
   small = (is.small, read.small);
 }
 
-read_ok : (lines : List (List ℕ)) (number : ℕ) (draft : DraftState) (front : List (ℕ × Line)) (cert : Cert) → Past draft front → Limited draft
+read_ok : (lines : List (List ℕ)) (number : ℕ) (draft : DraftState) (front : List (ℕ × CertLine)) (cert : Cert) → Past draft front → Limited draft
     → read_lines number draft lines ≡ Ok cert → AreRead draft (spoken_from number lines) cert
 read_ok [] number draft front cert past limited e =
     let over = finished_ok draft.stage number draft cert refl e in
     record { last = draft; follows = refl; over = over.0; is = over.1; limited = limited; small = tt }
 read_ok (line ∷ lines) number draft front cert past limited e = by (line_of line) e (read_ok lines (number + 1))
   where
-    by : (said : Line) → going_on (take_said number draft said) (λ next. read_lines (number + 1) next lines) ≡ Ok cert
-        → ((draft : DraftState) (front : List (ℕ × Line)) (cert : Cert) → Past draft front → Limited draft → read_lines (number + 1) draft lines ≡ Ok cert → AreRead draft (spoken_from (number + 1) lines) cert)
+    by : (said : CertLine) → going_on (take_said number draft said) (λ next. read_lines (number + 1) next lines) ≡ Ok cert
+        → ((draft : DraftState) (front : List (ℕ × CertLine)) (cert : Cert) → Past draft front → Limited draft → read_lines (number + 1) draft lines ≡ Ok cert → AreRead draft (spoken_from (number + 1) lines) cert)
         → AreRead draft (unless_passed number said ++ spoken_from (number + 1) lines) cert
     by Passed e later = later draft front cert past limited e
     by Faulty e later = absurd (cc)
@@ -90,14 +91,14 @@ read_ok (line ∷ lines) number draft front cert past limited e = by (line_of li
             (limited_after number draft front statement past t.stands t.fresh t.within limited)
             (subst (λ d. read_lines (number + 1) d lines ≡ Ok cert) (sym t.is) e))
 
-read_is : (lines : List (List ℕ)) (number : ℕ) (draft last : DraftState) (front : List (ℕ × Line)) → Past draft front → Follows draft (spoken_from number lines) last
+read_is : (lines : List (List ℕ)) (number : ℕ) (draft last : DraftState) (front : List (ℕ × CertLine)) → Past draft front → Follows draft (spoken_from number lines) last
     → last.stage ≡ stage.Nothing → Limited last → AllByRecursion IsSmall (spoken_from number lines) → read_lines number draft lines ≡ Ok (cert_of last)
 read_is [] number draft last front past follows over limited small =
     ap (λ s. finished_at s number draft) (ap (λ d. d.stage) (sym follows) ∙ over) ∙ ap (λ d. Ok (cert_of d)) (sym follows)
 read_is (line ∷ lines) number draft last front past follows over limited small = by (line_of line) follows small (read_is lines (number + 1))
   where
-    by : (said : Line) → Follows draft (unless_passed number said ++ spoken_from (number + 1) lines) last → AllByRecursion IsSmall (unless_passed number said ++ spoken_from (number + 1) lines)
-        → ((draft last : DraftState) (front : List (ℕ × Line)) → Past draft front → Follows draft (spoken_from (number + 1) lines) last
+    by : (said : CertLine) → Follows draft (unless_passed number said ++ spoken_from (number + 1) lines) last → AllByRecursion IsSmall (unless_passed number said ++ spoken_from (number + 1) lines)
+        → ((draft last : DraftState) (front : List (ℕ × CertLine)) → Past draft front → Follows draft (spoken_from (number + 1) lines) last
         → last.stage ≡ stage.Nothing → Limited last → AllByRecursion IsSmall (spoken_from (number + 1) lines) → read_lines (number + 1) draft lines ≡ Ok (cert_of last))
         → going_on (take_said number draft said) (λ next. read_lines (number + 1) next lines) ≡ Ok (cert_of last)
     by Passed follows small later = later draft last front past follows over limited small
@@ -115,9 +116,9 @@ read_is (line ∷ lines) number draft last front past follows over limited small
 tree_of : (tree : List Node) (opens : List ℕ) → Grown 256 tree opens → opens ≡ [] → IsSomeTree tree → IsTree 256 tree
 tree_of [] opens grown none (zero, is) = absurd is
 tree_of [] opens grown none (suc depth, is) = absurd (let never : (x : Node) (xs : List Node) → [] ≡ x ∷ xs → ⊥ = λ x xs e. cc in never _ _ is.2)
-tree_of (root ∷ nodes) opens grown none some = tree_grown 256 root nodes (subst (λ w. Grown 256 (root ∷ nodes) w) none grown)
+tree_of (root ∷ nodes) opens grown none some = tree_grown branches_on 256 root nodes (subst (λ w. Grown 256 (root ∷ nodes) w) none grown)
 
-closed : (lines : List (ℕ × Line)) (last : DraftState) → last.stage ≡ stage.Nothing → Past last lines → last.opens ≡ []
+closed : (lines : List (ℕ × CertLine)) (last : DraftState) → last.stage ≡ stage.Nothing → Past last lines → last.opens ≡ []
 closed lines last over past = (subst (λ s. PastAt s lines last.property last.facts last.tree last.opens) over past).1
 
 pub spells_read : (bytes : List ℕ) (cert : Cert) → certificate_of bytes ≡ Ok cert → Spells bytes cert
@@ -138,5 +139,5 @@ spells_read bytes cert e =
 pub reads_spelled : (bytes : List ℕ) (cert : Cert) → Spells bytes cert → certificate_of bytes ≡ Ok cert
 reads_spelled bytes cert is =
     read_is (lines_of bytes) 1 nothing_read (whole cert) [] past_nothing (follow_order (spoken bytes) cert 256 is.order is.tree) refl
-    (record { names = is.names; steps = is.steps; nodes = is.nodes; grown = grown_tree 256 cert.tree is.tree })
+    (record { names = is.names; steps = is.steps; nodes = is.nodes; grown = grown_tree branches_on 256 cert.tree is.tree })
     is.sums

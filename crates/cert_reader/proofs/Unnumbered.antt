@@ -15,7 +15,8 @@ use Rattle.cert_lines.specs.declared.statements.Claim.{Claim}
 use Rattle.cert_lines.specs.declared.statements.Claim.TheVariants as claim
 use Rattle.cert_lines.specs.declared.statements.Statement.{Statement}
 use Rattle.cert_lines.specs.declared.statements.Statement.TheVariants as say
-use Rattle.cert_reader.specs.Reading.{DraftState, after, amounts_of, branches_of, fact_at, grown, is_bound, is_past_limits, is_repeated, kind_of, last_fact, may_follow, may_stand, may_stand_at, names_of, node_at, opens_after, origin_of, origins_of, same_origin, stage_after, step_at, take_statement, takes_steps, with_step}
+use Rattle.prefix_trees.specs.Trees.{opens_after}
+use Rattle.cert_reader.specs.Reading.{DraftState, after, amounts_of, branches_of, fact_at, grown, is_bound, is_past_limits, is_repeated, kind_of, last_fact, may_follow, may_stand, may_stand_at, names_of, node_at, origin_of, origins_of, same_origin, stage_after, step_at, take_statement, takes_steps, with_step}
 use Rattle.cert_reader.specs.Rewriting.{unnumbered_fact, unnumbered_kind, unnumbered_node, unnumbered_step}
 use Rattle.cert_reader.specs.declared.faults.CertFault.TheVariants as fault
 use Rattle.cert_reader.specs.declared.stages.Stage.{Stage}

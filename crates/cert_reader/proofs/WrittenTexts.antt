@@ -8,8 +8,9 @@ use Rattle.std.proofs.lemmas.Grind.{flat_map-append}
 use Rattle.std.proofs.lemmas.List.{append_assoc, append-nil}
 use Rattle.std.proofs.lemmas.List.Folds.{flat_map-map}
 use Rattle.cert_lines.specs.Statements.{line_of}
-use Rattle.cert_lines.specs.Texts.{all_spaced, certificate_text, claim_line, ended, fact_lines, factor_text, form_line, multiplier_text, node_line, place_text, spaced, step_line, weight_text}
-use Rattle.cert_lines.specs.Words.{lines_of}
+use Rattle.cert_lines.specs.Texts.{certificate_text, claim_line, fact_lines, form_line, node_line, step_line}
+use Rattle.line_words.specs.Texts.{all_spaced, ended, factor_text, multiplier_text, place_text, spaced, weight_text}
+use Rattle.line_words.specs.Words.{lines_of}
 use Rattle.cert_lines.specs.Written.{WrittenLineIsRead, statement_text}
 use Rattle.cert_lines.specs.declared.certificates.Cert.{Cert}
 use Rattle.cert_lines.specs.declared.certificates.Fact.{Fact}
@@ -21,8 +22,8 @@ use Rattle.cert_lines.specs.declared.certificates.NodeForm.TheVariants as node
 use Rattle.cert_lines.specs.declared.certificates.Step.{Step}
 use Rattle.cert_lines.specs.declared.statements.Claim.{Claim}
 use Rattle.cert_lines.specs.declared.statements.Claim.TheVariants as claim
-use Rattle.cert_lines.specs.declared.statements.Line.{Line}
-use Rattle.cert_lines.specs.declared.statements.Line.TheVariants.{Passed, Faulty, Says}
+use Rattle.cert_lines.specs.Statements.{CertLine}
+use Rattle.line_words.specs.declared.lines.Line.TheVariants.{Passed, Faulty, Says}
 use Rattle.cert_lines.specs.declared.statements.Statement.{Statement}
 use Rattle.cert_lines.specs.declared.statements.Statement.TheVariants as say
 use Rattle.cert_lines.specs.declared.statements.StepClaim.{StepClaim}
@@ -31,7 +32,7 @@ use Rattle.cert_reader.specs.Rewriting.{WrittenIsRead, unnumbered, unnumbered_fa
 use Rattle.cert_reader.specs.declared.faults.CertFault.{CertFault}
 use Rattle.cert_reader.specs.declared.stages.Stage.{Stage}
 use Rattle.cert_reader.specs.declared.stages.Stage.TheVariants as stage
-use Rattle.cert_reader.proofs.LineCuts.{line_then}
+use Rattle.line_words.proofs.LineEnds.{line_then}
 use Rattle.cert_reader.proofs.Spelled.{reads_spelled, spells_read}
 use Rattle.cert_reader.proofs.Unnumbered.{IsSame, same_after, same_taken, taken}
 
@@ -251,7 +252,7 @@ on_statement law number draft next line statement says e reached =
 on_line : WrittenLineIsRead → (number : ℕ) (draft next : DraftState) (line : List ℕ) → take_line number draft line ≡ Ok next → Reached draft → Reached next
 on_line law number draft next line e reached = by (line_of line) refl e
   where
-    by : (said : Line) → line_of line ≡ said → take_said number draft said ≡ Ok next → Reached next
+    by : (said : CertLine) → line_of line ≡ said → take_said number draft said ≡ Ok next → Reached next
     by Passed is e = let same : draft ≡ next = cc in subst Reached same reached
     by Faulty is e = absurd (cc)
     by (Says statement) is e = on_statement law number draft next line statement is e reached

@@ -3,10 +3,12 @@ use Rattle.std.specs.Prelude.{ℕ, zero, suc, true, false, ◌+◌, ◌<◌, ◌
 use Rattle.std.specs.Bool.{⊤}
 use Rattle.std.specs.List.{AllByRecursion, IsDistinct, list_any}
 use Rattle.std.specs.Str.{bytes_eq}
+use Rattle.prefix_trees.specs.Trees as trees
+use Rattle.prefix_trees.specs.Trees.{HasAbove}
 use Rattle.cert_lines.specs.Statements.{line_of}
 use Rattle.cert_lines.specs.Sums.{are_past}
 use Rattle.cert_lines.specs.Texts.{steps_of}
-use Rattle.cert_lines.specs.Words.{lines_of}
+use Rattle.line_words.specs.Words.{lines_of}
 use Rattle.cert_lines.specs.declared.certificates.Cert.{Cert}
 use Rattle.cert_lines.specs.declared.certificates.Fact.{Fact}
 use Rattle.cert_lines.specs.declared.certificates.FactKind.{FactKind}
@@ -15,24 +17,24 @@ use Rattle.cert_lines.specs.declared.certificates.Node.{Node}
 use Rattle.cert_lines.specs.declared.certificates.Step.{Step}
 use Rattle.cert_lines.specs.declared.statements.Claim.{Claim}
 use Rattle.cert_lines.specs.declared.statements.Claim.TheVariants as claim
-use Rattle.cert_lines.specs.declared.statements.Line.{Line}
-use Rattle.cert_lines.specs.declared.statements.Line.TheVariants.{Passed, Faulty, Says}
+use Rattle.cert_lines.specs.Statements.{CertLine}
+use Rattle.line_words.specs.declared.lines.Line.TheVariants.{Passed, Faulty, Says}
 use Rattle.cert_lines.specs.declared.statements.Statement.TheVariants as say
-use Rattle.cert_reader.specs.Reading.{amounts_of, branches_of, names_of, origin_of, same_origin}
+use Rattle.cert_reader.specs.Reading.{amounts_of, branches_on, names_of, origin_of, same_origin}
 use Rattle.cert_reader.specs.declared.faults.CertFault.{CertFault}
 use Rattle.cert_reader.specs.declared.faults.CertFault.TheVariants as fault
 
 -- the lines that aren't passed over, each with its number
-abbrev pub unless_passed : ℕ → Line → List (ℕ × Line)
+abbrev pub unless_passed : ℕ → CertLine → List (ℕ × CertLine)
 unless_passed number Passed = []
 unless_passed number Faulty = (number, Faulty) ∷ []
 unless_passed number (Says statement) = (number, Says statement) ∷ []
 
-abbrev pub spoken_from : ℕ → List (List ℕ) → List (ℕ × Line)
+abbrev pub spoken_from : ℕ → List (List ℕ) → List (ℕ × CertLine)
 spoken_from number [] = []
 spoken_from number (line ∷ lines) = unless_passed number (line_of line) ++ spoken_from (number + 1) lines
 
-abbrev pub spoken : List ℕ → List (ℕ × Line)
+abbrev pub spoken : List ℕ → List (ℕ × CertLine)
 spoken bytes = spoken_from 1 (lines_of bytes)
 
 -- the lines of a fact, those of its steps behind it, and the line of a node
@@ -41,20 +43,20 @@ claim_of (Flow weights) = claim.Flow weights
 claim_of (Trap places) = claim.Trap places
 claim_of (Bound limit weights steps) = claim.Bound limit weights
 
-abbrev pub said_by_step : Step → ℕ × Line
+abbrev pub said_by_step : Step → ℕ × CertLine
 said_by_step step = (
   step.line,
   Says (say.Step (record { origin = origin_of step; scale = step.scale; keep = step.keep; factors = step.factors })),
 )
 
-abbrev pub said_by_fact : Fact → List (ℕ × Line)
+abbrev pub said_by_fact : Fact → List (ℕ × CertLine)
 said_by_fact fact = (fact.line, Says (say.Fact fact.name (claim_of fact.kind))) ∷ map said_by_step (steps_of fact.kind)
 
-abbrev pub said_by_node : Node → ℕ × Line
+abbrev pub said_by_node : Node → ℕ × CertLine
 said_by_node node = (node.line, Says (say.Node node.form))
 
 -- the lines of a certificate: the version, the property, the facts, `proof`, the nodes, `end`, and nothing more
-abbrev pub IsInOrder : List (ℕ × Line) → Cert → Type 0
+abbrev pub IsInOrder : List (ℕ × CertLine) → Cert → Type 0
 IsInOrder lines cert =
     (version : ℕ)
     × (property : ℕ)
@@ -63,21 +65,15 @@ IsInOrder lines cert =
     × (lines ≡ (version, Says say.Version) ∷ (property, Says (say.Property cert.property)) ∷ (flat_map said_by_fact cert.facts
     ++ (proof, Says say.Proof) ∷ (map said_by_node cert.tree ++ (end, Says say.End) ∷ [])))
 
--- a tree up to this depth: a node, and then the trees of its branches
+-- the nodes are a tree up to this depth
 abbrev pub IsTree : ℕ → List Node → Type 0
-IsTree zero nodes = ⊥
-IsTree (suc depth) nodes =
-    (node : Node)
-    × (branches : List (List Node))
-    × (nodes ≡ node ∷ flat_map (λ branch. branch) branches)
-    × (length branches ≡ branches_of node.form)
-    × AllByRecursion (IsTree depth) branches
+IsTree depth nodes = trees.IsTree branches_on depth nodes
 
 abbrev pub IsSomeTree : List Node → Type 0
-IsSomeTree nodes = (depth : ℕ) × IsTree depth nodes
+IsSomeTree nodes = trees.IsSomeTree branches_on nodes
 
 -- the absolute values on a line
-abbrev pub amounts_on : Line → List (List ℕ × ℕ)
+abbrev pub amounts_on : CertLine → List (List ℕ × ℕ)
 amounts_on Passed = []
 amounts_on Faulty = []
 amounts_on (Says statement) = amounts_of statement
@@ -93,55 +89,42 @@ pub record Spells (bytes : List ℕ) (cert : Cert) : Type 0 where
   pub tree : IsTree 256 cert.tree
 
 -- more lines can make these all lines of a certificate, whatever they repeat and however large it is
-abbrev pub Stands : List (ℕ × Line) → Type 0
-Stands front = (rest : List (ℕ × Line)) × (cert : Cert) × IsInOrder (front ++ rest) cert × IsSomeTree cert.tree
+abbrev pub Stands : List (ℕ × CertLine) → Type 0
+Stands front = (rest : List (ℕ × CertLine)) × (cert : Cert) × IsInOrder (front ++ rest) cert × IsSomeTree cert.tree
 
 -- the names of facts and the nodes on these lines
-abbrev pub name_on : ℕ × Line → List (List ℕ)
+abbrev pub name_on : ℕ × CertLine → List (List ℕ)
 name_on (number, Says (say.Fact name said)) = name ∷ []
 name_on line = []
 
-abbrev pub names_on : List (ℕ × Line) → List (List ℕ)
+abbrev pub names_on : List (ℕ × CertLine) → List (List ℕ)
 names_on lines = flat_map name_on lines
 
-abbrev pub node_on : ℕ × Line → List Node
+abbrev pub node_on : ℕ × CertLine → List Node
 node_on (number, Says (say.Node form)) = record { line = number; form = form } ∷ []
 node_on line = []
 
-abbrev pub nodes_on : List (ℕ × Line) → List Node
+abbrev pub nodes_on : List (ℕ × CertLine) → List Node
 nodes_on lines = flat_map node_on lines
 
 -- a fact whose name an earlier fact has, or a step whose transition instance one of the steps right before it has
-abbrev pub Repeats : List (ℕ × Line) → Line → Type 0
+abbrev pub Repeats : List (ℕ × CertLine) → CertLine → Type 0
 Repeats before (Says (say.Fact name said)) = list_any (bytes_eq name) (names_on before) ≡ true
 Repeats before (Says (say.Step step)) =
-    (earlier : List (ℕ × Line))
+    (earlier : List (ℕ × CertLine))
     × (steps : List Step)
     × (before ≡ earlier ++ map said_by_step steps)
     × (list_any (same_origin step.origin) (map origin_of steps) ≡ true)
 Repeats before line = ⊥
 
--- a node behind these nodes of a tree has so many nodes above it: it is the root, or stands in a branch of the root, behind
--- whole branches
-abbrev pub HasAbove : ℕ → List Node → Type 0
-HasAbove zero nodes = nodes ≡ []
-HasAbove (suc above) nodes =
-    (node : Node)
-    × (whole : List (List Node))
-    × (part : List Node)
-    × (nodes ≡ node ∷ (flat_map (λ branch. branch) whole ++ part))
-    × (length whole < branches_of node.form)
-    × AllByRecursion IsSomeTree whole
-    × HasAbove above part
-
 -- the 1,048,577th node, or a node at depth 257, below 256 others, or deeper
-abbrev pub IsPastLimits : List (ℕ × Line) → Line → Type 0
+abbrev pub IsPastLimits : List (ℕ × CertLine) → CertLine → Type 0
 IsPastLimits before (Says (say.Node form)) =
-    (2 ^ 20 ≤ length (nodes_on before)) ⊎ ((above : ℕ) × (256 ≤ above) × HasAbove above (nodes_on before))
+    (2 ^ 20 ≤ length (nodes_on before)) ⊎ ((above : ℕ) × (256 ≤ above) × HasAbove branches_on above (nodes_on before))
 IsPastLimits before line = ⊥
 
 -- the fault of a line behind the lines before it, the first in their order
-abbrev pub HasLineFault : List (ℕ × Line) → ℕ × Line → CertFault → Type 0
+abbrev pub HasLineFault : List (ℕ × CertLine) → ℕ × CertLine → CertFault → Type 0
 HasLineFault before line (fault.Line number) = (number ≡ line.0) × ¬ Stands (before ++ line ∷ [])
 HasLineFault before line (fault.Repeated number) = (number ≡ line.0) × Stands (before ++ line ∷ []) × Repeats before line.1
 HasLineFault before line (fault.Coefficient number) =
@@ -158,23 +141,23 @@ HasLineFault before line (fault.CertLimit number) =
 HasLineFault before line fault.Memory = ⊥
 
 -- no line has a fault
-abbrev pub IsFaultless : List (ℕ × Line) → Type 0
+abbrev pub IsFaultless : List (ℕ × CertLine) → Type 0
 IsFaultless lines =
-    (before : List (ℕ × Line)) (line : ℕ × Line) (later : List (ℕ × Line)) (refusal : CertFault)
+    (before : List (ℕ × CertLine)) (line : ℕ × CertLine) (later : List (ℕ × CertLine)) (refusal : CertFault)
     → lines ≡ before ++ line ∷ later → HasLineFault before line refusal → ⊥
 
 -- the first line with a fault
-abbrev pub IsAtFault : List (ℕ × Line) → CertFault → Type 0
+abbrev pub IsAtFault : List (ℕ × CertLine) → CertFault → Type 0
 IsAtFault lines refusal =
-    (before : List (ℕ × Line))
-    × (line : ℕ × Line)
-    × (later : List (ℕ × Line))
+    (before : List (ℕ × CertLine))
+    × (line : ℕ × CertLine)
+    × (later : List (ℕ × CertLine))
     × (lines ≡ before ++ line ∷ later)
     × IsFaultless before
     × HasLineFault before line refusal
 
 -- lines without a fault that are no whole certificate: the fault is behind the last line of the file
-abbrev pub IsUnfinished : List (ℕ × Line) → ℕ → CertFault → Type 0
+abbrev pub IsUnfinished : List (ℕ × CertLine) → ℕ → CertFault → Type 0
 IsUnfinished lines count refusal =
     IsFaultless lines
     × ((cert : Cert) → IsInOrder lines cert → IsSomeTree cert.tree → ⊥)

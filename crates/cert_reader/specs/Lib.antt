@@ -1,4 +1,4 @@
+pub mod Feeding
 pub mod Grammar
-pub mod Pieces
 pub mod Reading
 pub mod Rewriting

@@ -3,8 +3,9 @@ use Rattle.std.specs.Prelude.{ℕ, zero, suc, Bool, true, false, ◌&&◌, ◌||
 use Rattle.std.specs.Bool.{⊤}
 use Rattle.std.specs.List.{list_any}
 use Rattle.std.specs.Str.{bytes_eq}
+use Rattle.prefix_trees.specs.Trees.{opens_after}
 use Rattle.cert_lines.specs.Texts.{steps_of}
-use Rattle.cert_lines.specs.Words.{lines_of}
+use Rattle.line_words.specs.Words.{lines_of}
 use Rattle.cert_lines.specs.Statements.{line_of}
 use Rattle.cert_lines.specs.Sums.{are_past, factor_amount, multiplier_amount, weight_amount}
 use Rattle.cert_lines.specs.declared.certificates.Cert.{Cert}
@@ -19,9 +20,9 @@ use Rattle.cert_reader.specs.declared.faults.CertFault.{CertFault}
 use Rattle.cert_reader.specs.declared.faults.CertFault.TheVariants as fault
 use Rattle.cert_lines.specs.declared.statements.Claim.{Claim}
 use Rattle.cert_lines.specs.declared.statements.Claim.TheVariants as claim
-use Rattle.cert_lines.specs.declared.statements.Line.{Line}
-use Rattle.cert_lines.specs.declared.statements.Line.TheVariants.{Passed, Faulty, Says}
-use Rattle.cert_lines.specs.declared.statements.Origin.{Origin}
+use Rattle.cert_lines.specs.Statements.{CertLine}
+use Rattle.line_words.specs.declared.lines.Line.TheVariants.{Passed, Faulty, Says}
+use Rattle.line_words.specs.declared.items.InstanceRef.{InstanceRef}
 use Rattle.cert_reader.specs.declared.stages.Stage.{Stage}
 use Rattle.cert_reader.specs.declared.stages.Stage.TheVariants as stage
 use Rattle.cert_lines.specs.declared.statements.Statement.{Statement}
@@ -55,14 +56,14 @@ abbrev pub takes_steps : Option Fact → Bool
 takes_steps None = false
 takes_steps (Some fact) = is_bound fact.kind
 
-abbrev pub origin_of : Step → Origin
+abbrev pub origin_of : Step → InstanceRef
 origin_of step = record { transition = step.transition; binding = step.binding }
 
-abbrev pub origins_of : Option Fact → List Origin
+abbrev pub origins_of : Option Fact → List InstanceRef
 origins_of None = []
 origins_of (Some fact) = map origin_of (steps_of fact.kind)
 
-abbrev pub same_origin : Origin → Origin → Bool
+abbrev pub same_origin : InstanceRef → InstanceRef → Bool
 same_origin a b = bytes_eq a.transition b.transition && nat_eq a.binding b.binding
 
 abbrev pub names_of : List Fact → List (List ℕ)
@@ -175,19 +176,10 @@ branches_of (Split limit weights) = 2
 branches_of (Cases choice branches) = branches
 branches_of (Each choice) = 1
 
--- the open nodes after a node: it is one branch of the innermost, and those without a branch to come are closed
-abbrev pub one_less : List ℕ → List ℕ
-one_less [] = []
-one_less (count ∷ counts) = (count - 1) ∷ counts
+abbrev pub branches_on : Node → ℕ
+branches_on node = branches_of node.form
 
-abbrev pub still_open : List ℕ → List ℕ
-still_open [] = []
-still_open (zero ∷ counts) = still_open counts
-still_open (suc count ∷ counts) = suc count ∷ counts
-
-abbrev pub opens_after : ℕ → List ℕ → List ℕ
-opens_after branches opens = still_open (branches ∷ one_less opens)
-
+-- what comes after a node, by the open nodes
 abbrev pub stage_after : List ℕ → Stage
 stage_after [] = stage.End
 stage_after (count ∷ counts) = stage.Tree
@@ -266,7 +258,7 @@ take_statement number draft statement =
     Ok (after number draft statement))
     else Err (fault.Line number)
 
-abbrev pub take_said : ℕ → DraftState → Line → Result DraftState CertFault
+abbrev pub take_said : ℕ → DraftState → CertLine → Result DraftState CertFault
 take_said number draft Passed = Ok draft
 take_said number draft Faulty = Err (fault.Line number)
 take_said number draft (Says statement) = take_statement number draft statement
@@ -315,3 +307,10 @@ IsAnswer (Err fault.Memory) expected = ⊤
 abbrev pub HasTaken : {A : Type 0} → Result A CertFault → DraftState → Result DraftState CertFault → Type 0
 HasTaken (Ok done) draft expected = expected ≡ Ok draft
 HasTaken (Err fault) draft expected = IsAnswer {A = DraftState} (Err fault) expected
+
+-- the answer that the lines from `number` on lead to, and the one that all lines come to
+abbrev pub LeadsTo : DraftState → ℕ → List (List ℕ) → Result Cert CertFault → Type 0
+LeadsTo draft number lines answer = IsAnswer answer (read_lines number draft lines)
+
+abbrev pub ComesTo : List (List ℕ) → Result Cert CertFault → Type 0
+ComesTo lines answer = LeadsTo nothing_read 1 lines answer

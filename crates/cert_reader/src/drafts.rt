@@ -7,13 +7,13 @@ ghost use Rattle.cert_lines.specs.Sums.{are_past};
 
 use crate::facts::Facts;
 use crate::faults::CertFault;
-use crate::opens::Opens;
 use crate::stages::Stage;
 use cert_lines::{
-    Cert, Claim, Fact, FactKind, Line, Node, NodeForm, Origin, Statement, Step, StepClaim, is_past,
-    read_line,
+    Cert, Claim, Fact, FactKind, InstanceRef, Line, Node, NodeForm, Statement, Step, StepClaim,
+    is_past, read_line,
 };
 use name_tables::Name;
+use prefix_trees::Opens;
 use sqlite_items::Items;
 use std::alloc::Global;
 use std::marker::Model;
@@ -50,7 +50,8 @@ impl Model for Draft {
 }
 
 impl Draft {
-    ghost use Rattle.cert_reader.specs.Reading.{HasTaken, after, cert_of, fact_at, finished, is_past_limits, last_fact, may_follow, may_stand, names_of, node_at, nothing_read, opens_after, origins_of, same_origin, step_at, take_line, take_said, take_statement, takes_steps, with_facts, with_node, with_step};
+    ghost use Rattle.prefix_trees.specs.Trees.{opens_after};
+    ghost use Rattle.cert_reader.specs.Reading.{HasTaken, after, cert_of, fact_at, finished, is_past_limits, last_fact, may_follow, may_stand, names_of, node_at, nothing_read, origins_of, same_origin, step_at, take_line, take_said, take_statement, takes_steps, with_facts, with_node, with_step};
 
     /// Nothing read.
     pub fn new(alloc: Global) -> Result<Draft, Memory>
@@ -75,7 +76,12 @@ impl Draft {
         }
     }
 
-    fn take_line(&mut self, alloc: Global, number: u32, line: Line) -> Result<(), CertFault>
+    fn take_line(
+        &mut self,
+        alloc: Global,
+        number: u32,
+        line: Line<Statement>,
+    ) -> Result<(), CertFault>
         ensures { HasTaken result self.new (take_said number self.old line) }
     {
         match line {
@@ -243,7 +249,7 @@ impl Draft {
         ensures { OnOk result (self.new ≡ with_facts self.old (with_step self.old.facts (step_at number claim))) }
     {
         let StepClaim {
-            origin: Origin {
+            origin: InstanceRef {
                 transition,
                 binding,
             },
@@ -267,7 +273,11 @@ impl Draft {
     {
         self.opens.enter(branches_of(&form))?;
         self.tree.push(Node { line: number, form })?;
-        self.stage = self.opens.stage();
+        self.stage = if self.opens.is_empty() {
+            Stage::End
+        } else {
+            Stage::Tree
+        };
         Ok(())
     }
 

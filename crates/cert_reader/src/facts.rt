@@ -4,7 +4,7 @@ ghost use Rattle.std.specs.Str.{bytes_eq};
 ghost use Rattle.indexmap.specs.IndexSet.{insert_key};
 ghost use Rattle.cert_reader.specs.Reading.{is_bound, origin_of, same_origin, stepped, with_step};
 
-use cert_lines::{Fact, FactKind, Origin, Step};
+use cert_lines::{Fact, FactKind, InstanceRef, Step};
 use indexmap::IndexSet;
 use name_tables::Name;
 use sqlite_items::Items;
@@ -17,7 +17,7 @@ use wide_sums::Memory;
 pub struct Facts {
     list: Vec<Fact>,
     names: IndexSet<Name>,
-    origins: IndexSet<Origin>,
+    origins: IndexSet<InstanceRef>,
 }
 
 impl Model for Facts {
@@ -56,7 +56,7 @@ impl Facts {
     }
 
     /// Whether a step of the last fact is at this transition instance.
-    pub fn has_step(&self, origin: &Origin) -> bool
+    pub fn has_step(&self, origin: &InstanceRef) -> bool
         ensures { result ≡ list_any (same_origin origin.now) (origins_of (last_fact self.now)) }
     {
         self.origins.contains(origin)
@@ -130,7 +130,7 @@ fn put_fact(
     alloc: Global,
     list: &mut Vec<Fact>,
     names: &mut IndexSet<Name>,
-    origins: &mut IndexSet<Origin>,
+    origins: &mut IndexSet<InstanceRef>,
     fact: Fact,
 ) -> Result<bool, Memory>
     ensures is_new { IfOk result (λ added. added ≡ not (list_any (bytes_eq fact.name) names.old.keys)) }
@@ -150,7 +150,7 @@ fn put_fact(
 const KEPT_ROOM: usize = 64;
 
 /// Takes all origins out of the set.
-fn empty(alloc: Global, origins: &mut IndexSet<Origin>)
+fn empty(alloc: Global, origins: &mut IndexSet<InstanceRef>)
     ensures { origins.new.keys ≡ [] }
 {
     if origins.capacity() > KEPT_ROOM {
@@ -164,13 +164,13 @@ fn empty(alloc: Global, origins: &mut IndexSet<Origin>)
 fn put_step(
     alloc: Global,
     list: &mut Vec<Fact>,
-    origins: &mut IndexSet<Origin>,
+    origins: &mut IndexSet<InstanceRef>,
     step: Step,
 ) -> Result<(), Memory>
     ensures list { OnOk result (list.new.items ≡ with_step list.old.items step) }
     ensures origins { OnOk result (origins.new.keys ≡ insert_key same_origin origins.old.keys (origin_of step)) }
 {
-    origins.insert(Origin {
+    origins.insert(InstanceRef {
         transition: step.transition.copy(alloc)?,
         binding: step.binding,
     })?;

@@ -1,12 +1,13 @@
 -- The answer of `check` to the files of its operands, where it is told which names are held.
-use Rattle.std.specs.Prelude.{◌≡◌, ℕ, ◌↔◌, List, [], codes}
+use Rattle.std.specs.Prelude.{◌≡◌, ℕ, ◌↔◌, List}
 use Rattle.host_io.specs.Held.{Held}
 use Rattle.pnml_inputs.specs.Texts.{Texts}
-use Rattle.pnml_inputs.specs.Reading.{Reading, unheld, too_long, whole, inputs_reading}
+use Rattle.pnml_inputs.specs.Reading.{Reading, too_long, inputs_reading}
 use Rattle.pnml_inputs.specs.declared.inputs.Role.{Role}
-use Rattle.check_answer.specs.Verdicts.{refusal_line, IsVerdict}
-use Rattle.check_answer.specs.declared.outcomes.Outcome.{Outcome}
-use Rattle.check_answer.specs.declared.outcomes.Outcome.TheVariants.{ReadFault, TooLong}
+use Rattle.answers.specs.Answers.{IsAnswerRead}
+use Rattle.check_answer.specs.Verdicts.{IsVerdict}
+use Rattle.answers.specs.declared.outcomes.Outcome.{Outcome}
+use Rattle.answers.specs.declared.outcomes.Outcome.TheVariants.{TooLong}
 
 -- the names of the files of `check`
 pub record Operands : Type 0 where
@@ -17,12 +18,6 @@ pub record Operands : Type 0 where
 -- what reading the files comes to
 abbrev pub reading_of : Operands → Held → Reading Texts
 reading_of operands held = inputs_reading operands.net operands.formula operands.certificate held
-
--- the answer of a command to what reading its files comes to, by its answer to files that are read whole
-abbrev pub IsAnswerRead : {A : Type 0} → (A → Outcome → List ℕ → Type 0) → Reading A → Outcome → List ℕ → Type 0
-IsAnswerRead IsAnswer unheld outcome text = (outcome ≡ ReadFault) × (text ≡ [])
-IsAnswerRead IsAnswer (too_long role) outcome text = (outcome ≡ TooLong role) × (text ≡ refusal_line role (codes "too-long"))
-IsAnswerRead IsAnswer (whole texts) outcome text = IsAnswer texts outcome text
 
 -- the answer of `check`
 abbrev pub IsCheckAnswer : Operands → Held → Outcome → List ℕ → Type 0

@@ -9,8 +9,8 @@ use Rattle.plain_text.specs.Nets.{net_text}
 use Rattle.plain_text.specs.Properties.{property_text}
 use Rattle.plain_text.specs.Certificates.{certificate_text}
 use Rattle.check_answer.specs.Answers.{Operands, IsCheckAnswer}
-use Rattle.check_answer.specs.declared.outcomes.Outcome.{Outcome}
-use Rattle.check_answer.specs.declared.outcomes.Outcome.TheVariants.{Holds}
+use Rattle.answers.specs.declared.outcomes.Outcome.{Outcome}
+use Rattle.answers.specs.declared.outcomes.Outcome.TheVariants.{Holds}
 
 -- the files with these names are the canonical texts of a net, a property and a certificate, and the property's invariant
 -- is true in every marking that firing reaches from the net's initial marking

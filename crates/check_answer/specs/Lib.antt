@@ -1,4 +1,3 @@
-pub mod Outcomes
 pub mod Verdicts
 pub mod Answers
 pub mod Headline

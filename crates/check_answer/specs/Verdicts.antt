@@ -1,8 +1,10 @@
 -- The verdict on the bytes of a net, a formula file and a certificate: an outcome, and the text that is written.
-use Rattle.std.specs.Prelude.{◌≡◌, ℕ, ◌⊎◌, List, [], ◌∷◌, ◌++◌, codes}
+use Rattle.std.specs.Prelude.{◌≡◌, ℕ, ◌⊎◌, List, codes}
 use Rattle.plain_model.specs.declared.nets.PlainNet.{PlainNet}
 use Rattle.plain_model.specs.declared.properties.Property.{Property}
 use Rattle.plain_model.specs.declared.certificates.Certificate.{Certificate}
+use Rattle.plain_model.specs.declared.verdicts.Judged.{Judged}
+use Rattle.plain_model.specs.declared.verdicts.Judged.TheVariants as judged
 use Rattle.plain_model.specs.Obligations.{judgement}
 use Rattle.plain_model.specs.Plain.{IsPlainNet, IsPlainProperty, IsPlainCertificate}
 use Rattle.plain_model.specs.Report.{report}
@@ -11,19 +13,15 @@ use Rattle.plain_text.specs.Properties.{property_text}
 use Rattle.plain_text.specs.Certificates.{certificate_text}
 use Rattle.pnml_inputs.specs.Texts.{Texts}
 use Rattle.pnml_inputs.specs.declared.inputs.Role.{Role}
-use Rattle.pnml_inputs.specs.declared.inputs.Role.TheVariants.{Net, Formula, Cert}
-use Rattle.check_answer.specs.Outcomes.{outcome_of}
-use Rattle.check_answer.specs.declared.outcomes.Outcome.{Outcome}
-use Rattle.check_answer.specs.declared.outcomes.Outcome.TheVariants.{Refused}
+use Rattle.answers.specs.Refusals.{refusal_line}
+use Rattle.answers.specs.declared.outcomes.Outcome.{Outcome}
+use Rattle.answers.specs.declared.outcomes.Outcome.TheVariants.{Holds, NotShown, Range, Refused}
 
-abbrev pub role_word : Role → List ℕ
-role_word Net = codes "net"
-role_word Formula = codes "formula"
-role_word Cert = codes "certificate"
-
--- the line of a file that is refused, `refused ROLE WORD`
-abbrev pub refusal_line : Role → List ℕ → List ℕ
-refusal_line role word = codes "refused " ++ role_word role ++ 32 ∷ word ++ 10 ∷ []
+-- the outcome of what the obligations show
+abbrev pub outcome_of : Judged → Outcome
+outcome_of judged.Shown = Holds
+outcome_of (judged.NotShown spot) = NotShown
+outcome_of (judged.Range spot) = Range
 
 -- the three texts are those of a net, a property and a certificate of the first grammar, and these are judged
 pub record IsJudged (texts : Texts) (outcome : Outcome) (text : List ℕ) : Type 0 where

@@ -11,6 +11,4 @@ mod replies;
 mod report;
 
 pub use laws::{holds_is_invariant, too_long_is_told};
-pub use outcomes::{Outcome, status};
-pub use replies::{Reply, too_long, verdict};
-pub use report::report_text;
+pub use replies::verdict;

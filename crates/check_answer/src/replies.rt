@@ -1,16 +1,17 @@
-ghost use Rattle.std.specs.Prelude.{◌≡◌, ◌++◌, ◌∷◌, [], codes, IfOk, OnOk};
+ghost use Rattle.std.specs.Prelude.{◌≡◌, IfOk, OnOk};
 ghost use Rattle.plain_model.specs.Obligations.{judgement};
 ghost use Rattle.plain_model.specs.Plain.{AreDistinct, IsId, IsPlainCertificate, IsPlainCount, IsPlainNet, place_ids};
 ghost use Rattle.plain_rows.specs.Rows.{AreRowsOf};
 ghost use Rattle.plain_text.specs.Certificates.{certificate_text};
 ghost use Rattle.plain_text.specs.Nets.{net_text};
 ghost use Rattle.plain_text.specs.Properties.{property_text};
-ghost use Rattle.check_answer.specs.Outcomes.{IsFinal};
-ghost use Rattle.check_answer.specs.Verdicts.{IsJudged, IsNotYet, IsVerdict, refusal_line, role_word};
+ghost use Rattle.answers.specs.Outcomes.{IsFinal};
+ghost use Rattle.check_answer.specs.Verdicts.{IsJudged, IsNotYet, IsVerdict};
 
-use crate::outcomes::{Outcome, outcome_of};
+use crate::outcomes::outcome_of;
 use crate::refusals::Refusal;
-use crate::report::{put, report_text};
+use crate::report::report_text;
+use answers::{Outcome, Reply, refusal_text};
 use host_io::{Gate, Phase};
 use name_tables::is_id;
 use plain_judge::{NumberedProperty, judge};
@@ -20,51 +21,6 @@ use plain_text::{read_certificate, read_net, read_property};
 use pnml_inputs::{Inputs, Role};
 use std::alloc::Global;
 use wide_sums::Memory;
-
-/// An outcome, and the whole text that is to be written for it.
-#[derive(Debug, Drop)]
-pub struct Reply {
-    /// How the command ends once the text is written.
-    pub outcome: Outcome,
-    /// The text.
-    pub text: Vec<u8>,
-}
-
-/// The word for a file in the line that refuses it.
-fn role_word(role: Role) -> &'static [u8]
-    ensures { result.now ≡ role_word role }
-{
-    match role {
-        Role::Net => b"net",
-        Role::Formula => b"formula",
-        Role::Cert => b"certificate",
-    }
-}
-
-/// The line `refused ROLE WORD`.
-fn refusal_text(alloc: Global, role: Role, word: &[u8]) -> Result<Vec<u8>, Memory>
-    ensures { IfOk result (λ text. text.items ≡ refusal_line role word.now) }
-{
-    let mut text = Vec::new(alloc);
-    put(&mut text, b"refused ")?;
-    put(&mut text, role_word(role))?;
-    put(&mut text, b" ")?;
-    put(&mut text, word)?;
-    put(&mut text, b"\n")?;
-    Ok(text)
-}
-
-/// The reply where this file is longer than the limit.
-pub fn too_long(alloc: Global, role: Role) -> Result<Reply, Memory>
-    ensures outcome { IfOk result (λ reply. reply.outcome ≡ Outcome.TooLong role) }
-    ensures text { IfOk result (λ reply. reply.text.items ≡ refusal_line role (codes "too-long")) }
-{
-    let text = refusal_text(alloc, role, b"too-long")?;
-    Ok(Reply {
-        outcome: Outcome::TooLong(role),
-        text,
-    })
-}
 
 /// The reply where this file isn't taken yet.
 fn not_yet(alloc: Global, role: Role) -> Result<Reply, Memory>

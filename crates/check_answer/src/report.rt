@@ -2,26 +2,11 @@ ghost use Rattle.std.specs.Prelude.{◌≡◌, ℕ, ◌+◌, ◌<◌, ◌^◌, �
 ghost use Rattle.plain_model.specs.Report.{counts_line, failed_line, flow_name, line_feed, property_line, report};
 ghost use Rattle.check_answer.specs.Lines.{counts_text, step_text};
 
-use itoa::Buffer;
+use answers::{put, put_number};
 use name_tables::Name;
 use plain_model::{Certificate, Flow, Judged, PlainNet, Property, Spot};
 use std::alloc::Global;
 use wide_sums::Memory;
-
-/// Appends the bytes.
-pub fn put(text: &mut Vec<u8>, piece: &[u8]) -> Result<(), Memory>
-    ensures { OnOk result (text.new.items ≡ text.old.items ++ piece.now) }
-{
-    text.extend_from_slice(piece)?;
-    Ok(())
-}
-
-/// Appends the number in decimal digits.
-fn put_number(text: &mut Vec<u8>, number: u64) -> Result<(), Memory>
-    ensures { OnOk result (text.new.items ≡ text.old.items ++ decimal number) }
-{
-    put(text, Buffer::new().format(number).as_bytes())
-}
 
 /// Appends a word and a number.
 fn put_labelled(text: &mut Vec<u8>, label: &[u8], number: u64) -> Result<(), Memory>

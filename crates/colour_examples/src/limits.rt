@@ -1,7 +1,7 @@
 use crate::rules::is_refused;
 use colour_sorts::{NamedSort, ResolveFault, Rule, SortTerm};
 use colour_tables::{Built, sort, sorts};
-use name_tables::decimal;
+use name_tables::{Name, decimal};
 use sqlite_items::Items;
 use std::alloc::Global;
 use std::test::Fail;
@@ -110,6 +110,50 @@ fn sorts_that_square_the_one_before(rt: HostRuntime) {
     assert!(rt; is_first_past(rt.alloc(), b"5", b"0/1", 30, 2));
     assert!(rt; is_first_past(rt.alloc(), b"2", b"1/1024", 30, 2));
     assert!(rt; is_first_past(rt.alloc(), b"256", b"dot", 300, 1));
+}
+
+/// The id `B` and a number.
+fn square_id(alloc: Global, number: u32) -> Result<Name, Memory> {
+    let mut id = Name::new(alloc, b"B")?;
+    let digits = decimal(alloc, number as i128)?;
+    id.append(digits.bytes())?;
+    Ok(id)
+}
+
+/// The product of the square of this number with itself.
+fn next_square(alloc: Global, number: u32) -> Result<SortTerm, Memory> {
+    let mut parts = Vec::new(alloc);
+    parts.push(SortTerm::Named(square_id(alloc, number)?))?;
+    parts.push(SortTerm::Named(square_id(alloc, number)?))?;
+    Ok(SortTerm::Product(Items::from_vec(parts)))
+}
+
+/// `B0`, the product of dot alone, and so many more: each the product of the one before with itself.
+fn squares(alloc: Global, more: u32) -> Result<Vec<NamedSort>, Memory> {
+    let mut sorts = Vec::new(alloc);
+    let first = wrapped(alloc, SortTerm::Dot)?;
+    sorts.push(NamedSort {
+        id: square_id(alloc, 0)?,
+        sort: first,
+    })?;
+    for number in 0..more {
+        let sort = next_square(alloc, number)?;
+        sorts.push(NamedSort {
+            id: square_id(alloc, number + 1)?,
+            sort,
+        })?;
+    }
+    Ok(sorts)
+}
+
+#[test]
+fn the_eleventh_square_of_a_product_of_dot_alone_passes_the_limit(
+    rt: HostRuntime,
+) -> Result<(), Fail> {
+    let sorts = squares(rt.alloc(), 20)?;
+    let built = Built::new(rt.alloc(), sorts.as_slice(), &[]);
+    assert!(rt; is_refused(&built, b"B11", b"domain-limit"));
+    Ok(())
 }
 
 /// The size of one of these named sorts.

@@ -8,29 +8,29 @@ use Rattle.colour_sorts.specs.Domain.{before, fault_at, sort_fault_from}
 use Rattle.std.specs.Str.{bytes_eq}
 use Rattle.colour_sorts.specs.declared.facts.Facts.{Facts}
 use Rattle.colour_sorts.specs.declared.facts.Mark.{Mark}
-use Rattle.colour_sorts.specs.declared.facts.Mark.TheVariants.{Done, Fresh, Open}
+use Rattle.colour_sorts.specs.declared.facts.Mark.TheVariants.{Done, Fresh}
 use Rattle.colour_sorts.specs.declared.rules.Rule.{Rule}
 use Rattle.colour_sorts.specs.declared.rules.Rule.TheVariants as rule
-use Rattle.colour_sorts.specs.declared.written.NamedSort.{NamedSort}
-use Rattle.colour_sorts.specs.declared.written.SortTerm.TheVariants as term
+use Rattle.net_model.specs.declared.sorts.NamedSort.{NamedSort}
+use Rattle.net_model.specs.declared.sorts.SortTerm.TheVariants as term
 use Rattle.colour_sorts.specs.Limits.{broken_in}
-use Rattle.colour_sorts.specs.Naming.{at_place, broken_rule, constants_of, ends_within, enough, has_end, ids_of, is_known, is_known_within, names_pass, place_of, sort_by, sort_of, sort_within, term_at}
+use Rattle.net_model.specs.Ids.{constants_of, ids_of}
+use Rattle.colour_sorts.specs.Naming.{at_place, broken_rule, ends_within, enough, has_end, is_known, is_known_within, names_pass, place_of, sort_by, sort_of, sort_within, term_at}
 use Rattle.colour_sorts.specs.declared.sorts.Sort.{Sort}
-use Rattle.colour_sorts.specs.Compiling.{AreAllCompiled, IsReached}
 use Rattle.std.proofs.lemmas.Bool.{false≢true}
 use Rattle.colour_sorts.specs.Judging.{IsFacts}
-use Rattle.colour_sorts.proofs.Walks.{front-or-end}
-use Rattle.colour_sorts.specs.Walking.{AreSound, IsDoneAt, IsWalk, KeepsDone, mark_at, one_if_done, tally}
+use Rattle.colour_sorts.proofs.Has.{front-or-end}
+use Rattle.colour_sorts.specs.Walking.{AreMarked, AreSound, IsDoneAt, IsMarkedAt, done_count, mark_at, one_if_done}
+use Rattle.std.specs.Prelude.{IfNone}
 use Rattle.colour_sorts.proofs.Constants.{number_in-only}
 use Rattle.colour_sorts.proofs.PlacesIn.{get-at}
 
-pub tally-le : (marks : List Mark) → tally one_if_done marks ≤ length marks
-tally-le [] = omega arith
-tally-le (m ∷ ms) = by m (tally-le ms)
+pub count-le : (marks : List Mark) → done_count marks ≤ length marks
+count-le [] = omega arith
+count-le (m ∷ ms) = by m (count-le ms)
   where
-    by : (m : Mark) → tally one_if_done ms ≤ length ms → one_if_done m + tally one_if_done ms ≤ suc (length ms)
+    by : (m : Mark) → done_count ms ≤ length ms → one_if_done m + done_count ms ≤ suc (length ms)
     by Fresh h = omega (arith, h)
-    by Open h = omega (arith, h)
     by (Done f) h = omega (arith, h)
 
 -- the id at a position leads back to it
@@ -44,12 +44,12 @@ pub record IsDone (sorts : List NamedSort) (at : ℕ) (f : Facts) : Type 0 where
   pub known : f.is_known ≡ is_known sorts (term_at sorts at)
   pub tests : IsFacts (constants_of sorts) (sort_of sorts at (term_at sorts at)) f
 
-pub done-facts : (sorts : List NamedSort) (marks : List Mark) (at : ℕ) (f : Facts) → IsDistinct bytes_eq (ids_of sorts) → IsWalk sorts marks [] → at < length sorts
+pub done-facts : (sorts : List NamedSort) (marks : List Mark) (at : ℕ) (f : Facts) → IsDistinct bytes_eq (ids_of sorts) → AreMarked sorts marks → at < length sorts
     → mark_at marks at ≡ Done f → IsDone sorts at f
 done-facts sorts marks at f distinct walk within done =
     let id = get_or (ids_of sorts) at [] in
     let place = place-back sorts at distinct within in
-    let known = walk.settled (suc (enough sorts)) (omega (arith, tally-le marks, walk.as_long)) id at f place (get-at marks at (Done f) Fresh (omega (arith, within, walk.as_long)) done) in
+    let known = walk.settled (suc (enough sorts)) (omega (arith, count-le marks, walk.as_long)) id at f place (get-at marks at (Done f) Fresh (omega (arith, within, walk.as_long)) done) in
     record {
       ends = sym (ap (at_place true (λ at. names_pass (ends_within sorts (enough sorts)) (term_at sorts at))) place) ∙ known.ends;
       known = known.known ∙ ap (at_place false (λ at. names_pass (is_known_within sorts (enough sorts)) (term_at sorts at))) place;
@@ -79,21 +79,15 @@ fresh-mark (suc n) (suc j) = fresh-mark n j
 fresh-get : (n j : ℕ) (m : Mark) → slice_get (replicate n Fresh) j ≡ Some m → m ≡ Fresh
 fresh-get n j m e = sym (get_or_from_slice_get (replicate n Fresh) j m Fresh e) ∙ fresh-mark n j
 
-fresh-open : Fresh ≡ Open → ⊥
-fresh-open e = grind arith
-
 done-fresh : (f : Facts) → Done f ≡ Fresh → ⊥
 done-fresh f e = grind arith
 
 -- where nothing was looked at
-pub walk-fresh : (sorts : List NamedSort) (marks : List Mark) → marks ≡ replicate (length sorts) Fresh → IsWalk sorts marks []
-walk-fresh sorts marks is = subst (λ ms. IsWalk sorts ms []) (sym is) (record {
+pub marked-none : (sorts : List NamedSort) (marks : List Mark) → marks ≡ replicate (length sorts) Fresh → AreMarked sorts marks
+marked-none sorts marks is = subst (AreMarked sorts) (sym is) (record {
   as_long = length-replicate (length sorts) Fresh;
   capped = λ at f e. absurd (done-fresh f (fresh-get (length sorts) at (Done f) e));
   settled = λ steps more id at f place e. absurd (done-fresh f (fresh-get (length sorts) at (Done f) e));
-  chain = λ k within. absurd (omega (arith, within));
-  waiting = λ j e. absurd (fresh-open (sym (fresh-mark (length sorts) j) ∙ e));
-  within = λ k within. absurd (omega (arith, within));
 })
 
 -- the first fault among the named sorts from one on
@@ -122,21 +116,26 @@ fault-later sorts at within e = faults-from sorts at None within e
 pub fault-none : (sorts : List NamedSort) (at : ℕ) → length sorts ≤ at → sort_fault_from sorts at (drop at sorts) ≡ None
 fault-none sorts at end = ap (sort_fault_from sorts at) (drop_all at sorts end)
 
--- after enough rounds all are compiled, where all ways end
-pub all-compiled : (sorts : List NamedSort) (compiled : List (Option Sort)) (steps : ℕ) → IsDistinct bytes_eq (ids_of sorts) → steps ≡ length sorts + 2
-    → IsReached sorts compiled steps (length sorts) → ((at : ℕ) → at < length sorts → has_end sorts (term_at sorts at) ≡ true) → AreAllCompiled compiled (length sorts)
-all-compiled sorts compiled steps distinct e reached ends = λ at within none.
-    (let id = get_or (ids_of sorts) at [] in
-    let place = place-back sorts at distinct within in
-    let not : ends_within sorts steps id ≡ false = reached id at place within none in
-    let same : steps ≡ suc (enough sorts) = omega (arith, e) in
-    let last : ends_within sorts (suc (enough sorts)) id ≡ true = ap (at_place true (λ at. names_pass (ends_within sorts (enough sorts)) (term_at sorts at))) place ∙ ends at within in
-    false≢true (sym not ∙ ap (λ n. ends_within sorts n id) same ∙ last))
-
-pub sound-more : (sorts : List NamedSort) (marks now : List Mark) (at : ℕ) → KeepsDone marks now → IsDoneAt now at → broken_rule sorts at (term_at sorts at) ≡ None
-    → AreSound sorts marks at → AreSound sorts now (at + 1)
-sound-more sorts marks now at keeps done rule before = λ j within. by j (front-or-end j at within)
+pub sound-more : (sorts : List NamedSort) (marks : List Mark) (at : ℕ) → IsDoneAt marks at → broken_rule sorts at (term_at sorts at) ≡ None
+    → AreSound sorts marks at → AreSound sorts marks (at + 1)
+sound-more sorts marks at done rule before = λ j within. by j (front-or-end j at within)
   where
-    by : (j : ℕ) → ((j < at) ⊎ (j ≡ at)) → IsDoneAt now j × (broken_rule sorts j (term_at sorts j) ≡ None)
-    by j (inl front) = let known = before j front in ((known.0.0, keeps j known.0.0 known.0.1), known.1)
-    by j (inr end) = subst (λ k. IsDoneAt now k × (broken_rule sorts k (term_at sorts k) ≡ None)) (sym end) (done, rule)
+    by : (j : ℕ) → ((j < at) ⊎ (j ≡ at)) → IsDoneAt marks j × (broken_rule sorts j (term_at sorts j) ≡ None)
+    by j (inl front) = before j front
+    by j (inr end) = subst (λ k. IsDoneAt marks k × (broken_rule sorts k (term_at sorts k) ≡ None)) (sym end) (done, rule)
+
+-- where none breaks a rule, no names lead into a circle
+pub sound-ends : (sorts : List NamedSort) (marks : List Mark) → IsDistinct bytes_eq (ids_of sorts) → AreMarked sorts marks → AreSound sorts marks (length sorts)
+    → (at : ℕ) → at < length sorts → has_end sorts (term_at sorts at) ≡ true
+sound-ends sorts marks distinct marked sound at within =
+    let done = (sound at within).0 in
+    (done-facts sorts marks at done.0 distinct marked within (get_or_from_slice_get marks at (Done done.0) Fresh done.1)).ends
+
+-- a sort that isn't done leads into a circle
+pub circle-here : (sorts : List NamedSort) (marks : List Mark) (at : ℕ) → IsMarkedAt sorts marks at → mark_at marks at ≡ Fresh → has_end sorts (term_at sorts at) ≡ false
+circle-here sorts marks at (inl (f, done)) fresh = absurd (done-fresh f (sym (get_or_from_slice_get marks at (Done f) Fresh done) ∙ fresh))
+circle-here sorts marks at (inr endless) fresh = endless (enough sorts)
+
+pub if-none : {X : Type 0} (o : Option X) {P : Type 0} → P → IfNone o P
+if-none None h = h
+if-none (Some x) h = tt

@@ -13,17 +13,19 @@ use Rattle.colour_sorts.specs.declared.rules.Rule.{Rule}
 use Rattle.colour_sorts.specs.declared.rules.Rule.TheVariants as rule
 use Rattle.colour_sorts.specs.declared.sorts.Sort.{Sort}
 use Rattle.colour_sorts.specs.declared.sorts.Sort.TheVariants as sort
-use Rattle.colour_sorts.specs.declared.written.NamedSort.{NamedSort}
-use Rattle.colour_sorts.specs.declared.written.SortTerm.{SortTerm, map-SortTerm, out-SortTerm, roll-out-SortTerm, fold-roll-SortTerm}
-use Rattle.colour_sorts.specs.declared.written.SortTerm.TheOpen as layer
+use Rattle.net_model.specs.declared.sorts.NamedSort.{NamedSort}
+use Rattle.net_model.specs.declared.sorts.SortTerm.{SortTerm, map-SortTerm, out-SortTerm, roll-out-SortTerm, fold-roll-SortTerm}
+use Rattle.net_model.specs.declared.sorts.SortTerm.TheOpen as layer
 use Rattle.colour_sorts.specs.Colours.{constants_at}
 use Rattle.colour_sorts.specs.Compiling.{AreAllCompiled, IsCompiling, count_some, one_if_some}
 use Rattle.colour_sorts.specs.Domain.{Domain, before, StandsFor, domain_of, sort_fault_from, sorts_from}
 use Rattle.colour_sorts.specs.Held.{AreHeld, IsEnumeration, IsHeld, sort_held}
 use Rattle.colour_sorts.specs.Judging.{IsFacts}
-use Rattle.colour_sorts.specs.Naming.{at_place, broken_rule, constants_in, constants_in_layer, constants_of, ends_within, enough, ids_of, is_known, is_known_within, place_of, sort_by, sort_by_part, sort_of, sort_within, term_at}
-use Rattle.colour_sorts.specs.Walking.{AreSound, IsWalk}
-use Rattle.colour_sorts.proofs.Broken.{done-facts, nothing, place-back, tally-le}
+use Rattle.net_model.specs.Ids.{constants_in, constants_in_layer, constants_of, ids_of}
+use Rattle.colour_sorts.specs.Naming.{at_place, broken_rule, ends_within, enough, is_known, is_known_within, place_of, sort_by, sort_by_part, sort_of, sort_within, term_at}
+use Rattle.colour_sorts.specs.Walking.{AreMarked, AreSound}
+use Rattle.colour_sorts.proofs.Broken.{done-facts, nothing, place-back}
+use Rattle.colour_sorts.proofs.Broken.{count-le as marks-le}
 use Rattle.colour_sorts.proofs.Constants.{constants_at-within}
 use Rattle.colour_sorts.proofs.Judged.{ends-unknown}
 use Rattle.colour_sorts.proofs.Walks.{constants-at, term-at}
@@ -75,7 +77,7 @@ pub record IsBuilt (sorts : List NamedSort) (compiled : List (Option Sort)) (mar
   pub ends : (id : List ℕ) → place_of (ids_of sorts) id ≡ Some at → ends_within sorts (enough sorts) id ≡ true
   pub known : (id : List ℕ) → place_of (ids_of sorts) id ≡ Some at → is_known_within sorts (enough sorts) id ≡ true
 
-pub built-at : (sorts : List NamedSort) (compiled : List (Option Sort)) (marks : List Mark) → IsDistinct bytes_eq (ids_of sorts) → IsWalk sorts marks [] → AreSound sorts marks (length sorts)
+pub built-at : (sorts : List NamedSort) (compiled : List (Option Sort)) (marks : List Mark) → IsDistinct bytes_eq (ids_of sorts) → AreMarked sorts marks → AreSound sorts marks (length sorts)
     → IsCompiling sorts compiled → AreAllCompiled compiled (length sorts) → (at : ℕ) → at < length sorts → IsBuilt sorts compiled marks at
 built-at sorts compiled marks distinct walk sound compiling all at inside =
     let id = get_or (ids_of sorts) at [] in
@@ -90,7 +92,7 @@ built-at sorts compiled marks distinct walk sound compiling all at inside =
     let there = get-at compiled at (Some some.0) None long some.1 in
     let few : count_some compiled < enough sorts = omega (arith, count-le compiled, compiling.as_long) in
     let now = λ (id2 : List ℕ) (e : place_of (ids_of sorts) id2 ≡ Some at). compiling.settled (enough sorts) few id2 at some.0 e there in
-    let settled = λ (id2 : List ℕ) (e : place_of (ids_of sorts) id2 ≡ Some at). walk.settled (enough sorts) (omega (arith, tally-le marks, walk.as_long)) id2 at f e here.0.1 in
+    let settled = λ (id2 : List ℕ) (e : place_of (ids_of sorts) id2 ≡ Some at). walk.settled (enough sorts) (omega (arith, marks-le marks, walk.as_long)) id2 at f e here.0.1 in
     let next = compiling.settled (suc (enough sorts)) (omega (arith, few)) id at some.0 place there in
     record {
       one = some.0;

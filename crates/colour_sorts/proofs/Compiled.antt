@@ -1,23 +1,25 @@
 -- The sorts of terms, kind by kind, and the named sorts as they are compiled.
-use Rattle.std.proofs.Common.{◌≡◌, ℕ, zero, suc, ◌+◌, ◌<◌, ◌≤◌, ◌⊎◌, inl, inr, Bool, true, false, List, [], ◌∷◌, ◌++◌, map, length, length-set, set, take, get_or, refl, sym, ap, ◌∙◌, arith, Some, None, Option}
+use Rattle.std.proofs.Common.{◌≡◌, ℕ, zero, suc, ◌+◌, ◌<◌, ◌≤◌, ◌⊎◌, inl, inr, Bool, true, false, List, [], ◌∷◌, ◌++◌, map, length, length-set, set, take, get_or, refl, sym, ap, ◌∙◌, arith, subst, Some, None, Option}
 use Rattle.std.proofs.lemmas.List.{get_or-set_same, get_or-set_other, map-append, take_all, take_more}
 use Rattle.std.proofs.lemmas.Option.{get_or_from_slice_get, slice_get_within}
 use Rattle.std.proofs.lemmas.Bool.{false≢true}
-use Rattle.std.specs.Prelude.{MatchBool, is_some, ◌&&◌}
+use Rattle.std.specs.Prelude.{is_some, MatchOption}
 use Rattle.std.specs.List.{slice_get}
-use Rattle.colour_sorts.specs.declared.written.Span.{Span}
-use Rattle.colour_sorts.specs.declared.written.NamedSort.{NamedSort}
-use Rattle.colour_sorts.specs.declared.written.SortTerm.{SortTerm}
-use Rattle.colour_sorts.specs.declared.written.SortTerm.TheVariants as term
+use Rattle.net_model.specs.declared.sorts.Span.{Span}
+use Rattle.net_model.specs.declared.sorts.NamedSort.{NamedSort}
+use Rattle.net_model.specs.declared.sorts.SortTerm.{SortTerm}
+use Rattle.net_model.specs.declared.sorts.SortTerm.TheVariants as term
 use Rattle.colour_sorts.specs.declared.sorts.Sort.{Sort}
 use Rattle.colour_sorts.specs.declared.sorts.Sort.TheVariants as sort
-use Rattle.colour_sorts.specs.Naming.{at_place, ends_within, ids_of, names_pass, names_pass_part, place_of, sort_by, sort_by_part, sort_within, term_at}
-use Rattle.colour_sorts.specs.Compiling.{AreAllCompiled, AreCompiledBy, Grows, IsCompiledAt, IsCompiledBy, IsCompiling, IsReached, IsUncompiled, count_some, one_if_some}
+use Rattle.net_model.specs.Ids.{ids_of}
+use Rattle.colour_sorts.specs.Naming.{at_place, enough, has_end, place_of, sort_by, sort_by_part, sort_within, term_at}
+use Rattle.colour_sorts.specs.Searching.{Has, IsEndless, IsOrder, Leads, places_named, places_named_part}
+use Rattle.colour_sorts.specs.Compiling.{AreCompiledBy, Grows, IsCompiledAt, IsCompiledBy, IsCompiling, IsUncompiled, count_some, one_if_some}
 use Rattle.colour_sorts.proofs.Judged.{sort-unknown}
-use Rattle.colour_sorts.proofs.Layers.{term-Cyclic, term-Dot, term-Listed, term-Named, term-Product, term-Range}
+use Rattle.net_model.proofs.Layers.{term-Cyclic, term-Dot, term-Listed, term-Named, term-Product, term-Range}
 use Rattle.colour_sorts.proofs.PlacesIn.{get-at, none-is-some, some-is-some}
-use Rattle.colour_sorts.proofs.Products.{all-fails}
-use Rattle.colour_sorts.proofs.Walks.{equal-or-not, front-or-end}
+use Rattle.colour_sorts.proofs.Has.{front-or-end, has-part, set-cases}
+use Rattle.colour_sorts.proofs.Named.{leads-inside, places-Product}
 
 pub compiled-Dot : (ids : List (List ℕ)) (compiled : List (Option Sort)) (at : ℕ) → IsCompiledBy ids compiled at term.Dot sort.Dot
 compiled-Dot ids compiled at = λ sorts steps e h. sym (term-Dot (sort_by_part (sort_within sorts steps) at))
@@ -48,12 +50,13 @@ compiled-missing ids compiled at id none = λ sorts steps e h.
     sym (term-Named (sort_by_part (sort_within sorts steps) at) id ∙ sort-unknown sorts steps id (ap (λ ids. place_of ids id) (sym e) ∙ none))
 
 pub uncompiled-later : (ids : List (List ℕ)) (compiled : List (Option Sort)) (id : List ℕ) (place : ℕ) → place_of ids id ≡ Some place → slice_get compiled place ≡ Some None → IsUncompiled ids compiled (term.Named id)
-uncompiled-later ids compiled id place e is = λ test later. term-Named (names_pass_part test) id ∙ later id place e is
+uncompiled-later ids compiled id place e is =
+    (place, subst (λ l. Has l place) (sym (term-Named (places_named_part ids) id ∙ ap (at_place [] (λ at. at ∷ [])) e)) (0, refl), is)
 
 pub uncompiled-part : (ids : List (List ℕ)) (compiled : List (Option Sort)) (parts : List SortTerm) (i : ℕ) (part : SortTerm) → i < length parts → part ≡ get_or parts i part
     → IsUncompiled ids compiled part → IsUncompiled ids compiled (term.Product parts)
-uncompiled-part ids compiled parts i part within is known = λ test later.
-    term-Product (names_pass_part test) parts ∙ all-fails (names_pass test) parts i part within (sym is) (known test later)
+uncompiled-part ids compiled parts i part within is (at, has, none) =
+    (at, subst (λ l. Has l at) (sym (places-Product ids parts)) (has-part (places_named ids) parts i part at within (sym is) has), none)
 
 -- the same by places in the list of components
 pub compiled-more : (ids : List (List ℕ)) (compiled : List (Option Sort)) (at : ℕ) (parts : List SortTerm) (i : ℕ) (part : SortTerm) (ss : List Sort) (s : Sort)
@@ -79,17 +82,6 @@ count-set (x ∷ xs) zero s e = by x (some-is-some x None e)
     by : (x : Option Sort) → x ≡ None → 1 + count_some xs ≡ (one_if_some x + count_some xs) + 1
     by x e = ap (λ n. n) (let z = ap one_if_some e in omega (arith, z))
 count-set (x ∷ xs) (suc i) s e = let h = count-set xs i s e in omega (arith, h)
-
-set-cases : (xs : List (Option Sort)) (i : ℕ) (y : Option Sort) (j : ℕ) (z : Option Sort) → i < length xs → slice_get (set xs i y) j ≡ Some z
-    → ((j ≡ i) × (y ≡ z)) ⊎ ((j ≡ i → ⊥) × (slice_get xs j ≡ Some z))
-set-cases xs i y j z within e = by (equal-or-not j i)
-  where
-    by : ((j ≡ i) ⊎ (j ≡ i → ⊥)) → ((j ≡ i) × (y ≡ z)) ⊎ ((j ≡ i → ⊥) × (slice_get xs j ≡ Some z))
-    by (inl same) = inl (same, sym (get_or-set_same xs i y z within) ∙ ap (λ k. get_or (set xs i y) k z) (sym same) ∙ get_or_from_slice_get (set xs i y) j z z e)
-    by (inr other) = inr (
-      other,
-      get-at xs j z z (omega (arith, slice_get_within (set xs i y) j z e, length-set xs i y)) (sym (get_or-set_other xs i j y z other) ∙ get_or_from_slice_get (set xs i y) j z z e),
-    )
 
 -- one more is compiled
 pub compiling-more : (sorts : List NamedSort) (compiled : List (Option Sort)) (at : ℕ) (s : Sort) → IsCompiling sorts compiled → at < length sorts → slice_get compiled at ≡ Some None
@@ -123,37 +115,60 @@ compiled-set compiled at s within = λ e. by (set-cases compiled at (Some s) at 
     by (inl same) = none-is-some s (sym same.1)
     by (inr other) = other.0 refl
 
--- a step further
-pub reached-step : (sorts : List NamedSort) (before now : List (Option Sort)) (steps at : ℕ) → length now ≡ length sorts → Grows before now
-    → IsReached sorts before steps (length sorts) → IsUncompiled (ids_of sorts) now (term_at sorts at) → (id : List ℕ) → place_of (ids_of sorts) id ≡ Some at
-    → ends_within sorts (suc steps) id ≡ false
-reached-step sorts before now steps at long grows reached waits id found =
-    ap (at_place true (λ at. names_pass (ends_within sorts steps) (term_at sorts at))) found
-    ∙ waits (ends_within sorts steps) (λ name place e none. reached name place e (omega (arith, slice_get_within now place None none, long)) (grows place none))
-
 pub none-from : (o : Option Sort) → is_some o ≡ false → o ≡ None
 none-from None e = refl
 none-from (Some s) e = absurd (false≢true (sym e))
 
-pub reached-more : (sorts : List NamedSort) (base now new : List (Option Sort)) (steps at : ℕ) (done : Bool) → length new ≡ length sorts
-    → Grows base new → Grows now new → IsReached sorts base steps (length sorts) → IsReached sorts now (suc steps) at
-    → MatchBool done (IsCompiledAt new at) (IsUncompiled (ids_of sorts) new (term_at sorts at)) → IsReached sorts new (suc steps) (at + 1)
-reached-more sorts base now new steps at done long all grows start before attempt = λ id k found within none. by id k found none (front-or-end k at within)
-  where
-    here : (done : Bool) → MatchBool done (IsCompiledAt new at) (IsUncompiled (ids_of sorts) new (term_at sorts at)) → (id : List ℕ) → place_of (ids_of sorts) id ≡ Some at → slice_get new at ≡ Some None → ends_within sorts (suc steps) id ≡ false
-    here true compiled id found none = absurd (compiled none)
-    here false waits id found none = reached-step sorts base new steps at long all start waits id found
+-- the sort that a name stands for
+pub compiled-name : (sorts : List NamedSort) (compiled : List (Option Sort)) (at : ℕ) (t : SortTerm) (id : List ℕ) (place : ℕ) (s : Sort) → t ≡ term.Named id → place_of (ids_of sorts) id ≡ Some place
+    → slice_get compiled place ≡ Some (Some s) → IsCompiledBy (ids_of sorts) compiled at t s
+compiled-name sorts compiled at t id place s is found done = subst (λ t. IsCompiledBy (ids_of sorts) compiled at t s) (sym is) (compiled-Named (ids_of sorts) compiled at id place s found done)
 
-    by : (id : List ℕ) (k : ℕ) → place_of (ids_of sorts) id ≡ Some k → slice_get new k ≡ Some None → ((k < at) ⊎ (k ≡ at)) → ends_within sorts (suc steps) id ≡ false
-    by id k found none (inl front) = before id k found front (grows k none)
-    by id k found none (inr end) = here done attempt id (found ∙ ap Some end) (ap (slice_get new) (sym end) ∙ none)
+pub named-leads : (sorts : List NamedSort) (at to : ℕ) (id : List ℕ) → term_at sorts at ≡ term.Named id → place_of (ids_of sorts) id ≡ Some to → Leads sorts at to
+named-leads sorts at to id is found =
+    subst (λ l. Has l to) (sym (ap (places_named (ids_of sorts)) is ∙ term-Named (places_named_part (ids_of sorts)) id ∙ ap (at_place [] (λ at. at ∷ [])) found)) (0, refl)
 
-pub complete-more : (now new : List (Option Sort)) (at : ℕ) (complete done after : Bool) (P : Type 0) → Grows now new → MatchBool done (IsCompiledAt new at) P
-    → (complete ≡ true → AreAllCompiled now at) → after ≡ (complete && done) → after ≡ true → AreAllCompiled new (at + 1)
-complete-more now new at false done after P grows here before is e = absurd (false≢true (sym is ∙ e))
-complete-more now new at true false after P grows here before is e = absurd (false≢true (sym is ∙ e))
-complete-more now new at true true after P grows here before is e = λ k within none. by k none (front-or-end k at within)
+-- what is compiled has a sort
+pub compiled-some : (compiled : List (Option Sort)) (at : ℕ) → at < length compiled → IsCompiledAt compiled at → (s : Sort) × (slice_get compiled at ≡ Some (Some s))
+compiled-some compiled at within here = by (get_or compiled at None) refl
   where
-    by : (k : ℕ) → slice_get new k ≡ Some None → ((k < at) ⊎ (k ≡ at)) → ⊥
-    by k none (inl front) = before refl k front (grows k none)
-    by k none (inr end) = here (ap (slice_get new) (sym end) ∙ none)
+    by : (o : Option Sort) → get_or compiled at None ≡ o → (s : Sort) × (slice_get compiled at ≡ Some (Some s))
+    by None e = absurd (here (get-at compiled at None None within e))
+    by (Some s) e = (s, get-at compiled at (Some s) None within e)
+
+-- in the order all are compiled that a sort names
+pub behind-compiled : (sorts : List NamedSort) (order : List ℕ) (compiled : List (Option Sort)) (i at : ℕ) → IsOrder sorts order → slice_get order i ≡ Some at
+    → ((j to : ℕ) → j < i → slice_get order j ≡ Some to → IsCompiledAt compiled to) → ((at : ℕ) → at < length sorts → has_end sorts (term_at sorts at) ≡ true)
+    → (to : ℕ) → Leads sorts at to → IsCompiledAt compiled to
+behind-compiled sorts order compiled i at ordered here before ends to leads = by (ordered.behind i at to here leads)
+  where
+    by : ((j : ℕ) × (j < i) × (slice_get order j ≡ Some to)) ⊎ IsEndless sorts to → IsCompiledAt compiled to
+    by (inl (j, less, e)) = before j to less e
+    by (inr endless) = absurd (false≢true (sym (endless (enough sorts)) ∙ ends to (leads-inside sorts at to leads)))
+
+-- the sort of a named sort is put in
+pub record IsPut (sorts : List NamedSort) (old new : List (Option Sort)) (at : ℕ) : Type 0 where
+  pub compiled : IsCompiling sorts new
+  pub grows : Grows old new
+  pub here : IsCompiledAt new at
+
+pub put-one : (sorts : List NamedSort) (old new : List (Option Sort)) (at : ℕ) (s : Sort) → IsCompiling sorts old → at < length sorts → slice_get old at ≡ Some None
+    → IsCompiledBy (ids_of sorts) old at (term_at sorts at) s → new ≡ set old at (Some s) → IsPut sorts old new at
+put-one sorts old new at s known within empty one is = subst (λ now. IsPut sorts old now at) (sym is) (record {
+  compiled = compiling-more sorts old at s known within empty one;
+  grows = grows-set old at s (omega (arith, within, known.as_long));
+  here = compiled-set old at s (omega (arith, within, known.as_long));
+})
+
+pub empty-place : {X : Type 0} (o : Option X) (P : Type 0) (Q : X → Type 0) → MatchOption o P Q → is_some o ≡ false → P
+empty-place None P Q h e = h
+empty-place (Some x) P Q h e = absurd (false≢true (sym e))
+
+-- one position of the order more
+pub all-more : (order : List ℕ) (old now : List (Option Sort)) (i : ℕ) → Grows old now → ((k at : ℕ) → k < i → slice_get order k ≡ Some at → IsCompiledAt old at)
+    → IsCompiledAt now (get_or order i 0) → (k at : ℕ) → k < i + 1 → slice_get order k ≡ Some at → IsCompiledAt now at
+all-more order old now i grows before here k at less e = by (front-or-end k i less)
+  where
+    by : ((k < i) ⊎ (k ≡ i)) → IsCompiledAt now at
+    by (inl front) = λ none. before k at front e (grows at none)
+    by (inr end) = subst (IsCompiledAt now) (ap (λ j. get_or order j 0) (sym end) ∙ get_or_from_slice_get order k at 0 e) here

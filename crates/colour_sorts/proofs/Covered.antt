@@ -9,7 +9,7 @@ use Rattle.std.proofs.Math.Seq.{take-append_seam}
 use Rattle.colour_sorts.specs.declared.rules.Rule.TheVariants as rule
 use Rattle.colour_sorts.specs.declared.sorts.Colour.{Colour}
 use Rattle.colour_sorts.specs.declared.sorts.Colour.TheVariants as colour
-use Rattle.colour_sorts.specs.declared.written.Block.{Block}
+use Rattle.net_model.specs.declared.sorts.Block.{Block}
 use Rattle.colour_sorts.specs.Dividing.{block_with, is_colour, members_of}
 use Rattle.colour_sorts.specs.Filling.{AreFilling, IsFilling, IsTwice}
 use Rattle.colour_sorts.proofs.Grouped.{not-true}

@@ -2,15 +2,16 @@
 use Rattle.std.proofs.Common.{◌≡◌, ℕ, zero, suc, ◌<◌, ◌≤◌, ◌^◌, List, [], ◌∷◌, map, get_or, length, refl, sym, ap, arith, subst, Some, None, Option}
 use Rattle.std.proofs.lemmas.List.{get_or-map, length-map}
 use Rattle.colour_sorts.specs.declared.rules.Rule.{Rule}
-use Rattle.colour_sorts.specs.declared.written.NamedSort.{NamedSort}
-use Rattle.colour_sorts.specs.declared.written.Partition.{Partition}
-use Rattle.colour_sorts.specs.declared.written.SortTerm.TheVariants as term
+use Rattle.net_model.specs.declared.sorts.NamedSort.{NamedSort}
+use Rattle.net_model.specs.declared.sorts.Partition.{Partition}
+use Rattle.net_model.specs.declared.sorts.SortTerm.TheVariants as term
 use Rattle.colour_sorts.specs.declared.sorts.Sort.TheVariants as sort
 use Rattle.colour_sorts.specs.Calls.{blocks_at, sort_at}
 use Rattle.colour_sorts.specs.Colours.{colours, size}
 use Rattle.colour_sorts.specs.Dividing.{after, block_with, broken_blocks, broken_partition}
 use Rattle.colour_sorts.specs.Domain.{Domain, Fault, StandsFor, before, blocks_of, fault_at, partition_fault, partition_sort_of, sort_fault_from}
-use Rattle.colour_sorts.specs.Naming.{broken_rule, constants_of, sort_of}
+use Rattle.net_model.specs.Ids.{constants_of}
+use Rattle.colour_sorts.specs.Naming.{broken_rule, sort_of}
 use Rattle.colour_sorts.proofs.Partitioned.{unbroken-sort}
 use Rattle.colour_sorts.proofs.PlacesIn.{none-is-some}
 use Rattle.colour_sorts.proofs.Sizes.{unbroken-size}

@@ -3,7 +3,7 @@ use Rattle.std.proofs.Common.{◌≡◌, ℕ, ◌+◌, true, false, List, length
 use Rattle.std.proofs.lemmas.Int.{ints}
 use Rattle.std.specs.Prelude.{int_lt, unsigned_abs, ◌==◌}
 use Rattle.colour_sorts.specs.declared.facts.Facts.{Facts}
-use Rattle.colour_sorts.specs.declared.written.Span.{Span}
+use Rattle.net_model.specs.declared.sorts.Span.{Span}
 use Rattle.colour_sorts.specs.declared.sorts.Sort.TheVariants as sort
 use Rattle.colour_sorts.specs.Colours.{constants_at, natural_part, span_length}
 use Rattle.colour_sorts.specs.Limits.{depth_part, is_upside_down_part, lacks_components_part, lacks_constants_part, sorts_in_part}

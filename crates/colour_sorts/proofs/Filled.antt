@@ -11,11 +11,11 @@ use Rattle.std.proofs.lemmas.Option.{slice_get-get_or, slice_get_within}
 use Rattle.std.specs.List.{count_by, list_all, list_any, slice_get}
 use Rattle.colour_sorts.specs.declared.sorts.Colour.{Colour}
 use Rattle.colour_sorts.specs.declared.sorts.Colour.TheVariants as colour
-use Rattle.colour_sorts.specs.declared.written.Block.{Block}
-use Rattle.colour_sorts.specs.declared.written.Member.{Member}
+use Rattle.net_model.specs.declared.sorts.Block.{Block}
+use Rattle.net_model.specs.declared.sorts.Member.{Member}
 use Rattle.colour_sorts.specs.Dividing.{block_with, is_colour, members_of}
 use Rattle.colour_sorts.specs.Filling.{AreFilling, IsColourAt, IsFilling, IsTwice}
-use Rattle.colour_sorts.proofs.Walks.{equal-or-not}
+use Rattle.colour_sorts.proofs.Has.{equal-or-not}
 
 count-append : (c : Colour) (xs ys : List Member) → count_by (is_colour c) (xs ++ ys) ≡ count_by (is_colour c) xs + count_by (is_colour c) ys
 count-append c xs ys = sum_by-append _ xs ys

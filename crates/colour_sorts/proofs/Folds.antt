@@ -1,7 +1,7 @@
 -- The colours of a sort, one layer at a time.
 use Rattle.std.proofs.Common.{◌≡◌, ℕ, zero, suc, List, [], ◌∷◌, ℤ, pos, ◌+ℤ◌, map, length, refl, sym, ap, ◌∙◌}
 use Rattle.std.proofs.lemmas.List.{length-map}
-use Rattle.colour_sorts.specs.declared.written.Span.{Span}
+use Rattle.net_model.specs.declared.sorts.Span.{Span}
 use Rattle.colour_sorts.specs.declared.sorts.Sort.{Sort, fold-roll-Sort}
 use Rattle.colour_sorts.specs.declared.sorts.Sort.TheOpen as layer
 use Rattle.colour_sorts.specs.declared.sorts.Sort.TheVariants as sort

@@ -23,7 +23,8 @@ use Rattle.std.proofs.Common.{length-take}
 use Rattle.colour_sorts.specs.declared.groups.Group.{Group}
 use Rattle.colour_sorts.specs.Calls.{group_of, place_in}
 use Rattle.colour_sorts.specs.Colours.{constants_at}
-use Rattle.colour_sorts.specs.Groups.{AreOwned, HasNumber, IsGrouped, is_part, names_in, names_of}
+use Rattle.net_model.specs.Ids.{names_in}
+use Rattle.colour_sorts.specs.Groups.{AreOwned, HasNumber, IsGrouped, is_part, names_of}
 use Rattle.colour_sorts.specs.Places.{IsPlace}
 use Rattle.colour_sorts.proofs.Constants.{no_group, number_in-only, part-to, place-inside, place-nowhere}
 use Rattle.colour_sorts.proofs.PlacesIn.{get-at, none-is-some, some-is-some}

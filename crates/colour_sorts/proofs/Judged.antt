@@ -1,17 +1,19 @@
 -- The facts of each kind of term.
-use Rattle.std.proofs.Common.{◌≡◌, ℕ, zero, suc, ◌<◌, true, false, List, length, refl, sym, ap, ◌∙◌, arith, subst, Some, None}
+use Rattle.std.proofs.Common.{◌≡◌, ℕ, zero, suc, ◌<◌, true, false, List, [], ◌∷◌, length, refl, sym, ap, ◌∙◌, arith, subst, Some, None}
 use Rattle.std.specs.List.{slice_get}
 use Rattle.colour_sorts.specs.declared.facts.Facts.{Facts}
 use Rattle.colour_sorts.specs.declared.facts.Mark.{Mark}
 use Rattle.colour_sorts.specs.declared.facts.Mark.TheVariants.{Done}
-use Rattle.colour_sorts.specs.declared.written.Span.{Span}
-use Rattle.colour_sorts.specs.declared.written.NamedSort.{NamedSort}
-use Rattle.colour_sorts.specs.declared.written.SortTerm.TheVariants as term
+use Rattle.net_model.specs.declared.sorts.Span.{Span}
+use Rattle.net_model.specs.declared.sorts.NamedSort.{NamedSort}
+use Rattle.net_model.specs.declared.sorts.SortTerm.TheVariants as term
 use Rattle.colour_sorts.specs.declared.sorts.Sort.TheVariants as sort
 use Rattle.colour_sorts.specs.Colours.{constants_at}
-use Rattle.colour_sorts.specs.Naming.{at_place, constants_of, ends_within, ids_of, is_known_within, names_pass, names_pass_part, place_of, sort_by, sort_by_part, sort_within, term_at}
+use Rattle.net_model.specs.Ids.{constants_of, ids_of}
+use Rattle.colour_sorts.specs.Naming.{at_place, ends_within, is_known_within, names_pass, names_pass_part, place_of, sort_by, sort_by_part, sort_within, term_at}
 use Rattle.colour_sorts.specs.Judging.{IsFacts, IsJudgedBy, IsWaiting}
-use Rattle.colour_sorts.proofs.Layers.{term-Cyclic, term-Dot, term-Listed, term-Named, term-Range}
+use Rattle.colour_sorts.specs.Searching.{Has, places_named_part}
+use Rattle.net_model.proofs.Layers.{term-Cyclic, term-Dot, term-Listed, term-Named, term-Range}
 
 pub judged-Dot : (ids : List (List ℕ)) (marks : List Mark) (own : ℕ) (f : Facts) → f.is_known ≡ true
     → ((constants : List (List (List ℕ))) → IsFacts constants sort.Dot f) → IsJudgedBy ids marks own term.Dot f
@@ -50,7 +52,7 @@ pub ends-unknown : (sorts : List NamedSort) (steps : ℕ) (id : List ℕ) → 0 
 ends-unknown sorts zero id some e = absurd (omega (arith, some))
 ends-unknown sorts (suc steps) id some e = ap (at_place true (λ at. names_pass (ends_within sorts steps) (term_at sorts at))) e
 
-known-unknown : (sorts : List NamedSort) (steps : ℕ) (id : List ℕ) → place_of (ids_of sorts) id ≡ None → is_known_within sorts steps id ≡ false
+pub known-unknown : (sorts : List NamedSort) (steps : ℕ) (id : List ℕ) → place_of (ids_of sorts) id ≡ None → is_known_within sorts steps id ≡ false
 known-unknown sorts zero id e = ap (at_place false (λ at. true)) e
 known-unknown sorts (suc steps) id e = ap (at_place false (λ at. names_pass (is_known_within sorts steps) (term_at sorts at))) e
 
@@ -83,5 +85,5 @@ pub waiting-name : (ids : List (List ℕ)) (marks : List Mark) (id : List ℕ) (
 waiting-name ids marks id at within open_ found = record {
   within = within;
   open_ = open_;
-  named = λ test h. term-Named (names_pass_part test) id ∙ h id found;
+  named = subst (λ l. Has l at) (sym (term-Named (places_named_part ids) id ∙ ap (at_place [] (λ at. at ∷ [])) found)) (0, refl);
 }

@@ -16,16 +16,16 @@ use Rattle.colour_sorts.specs.declared.sorts.Colour.TheVariants as colour
 use Rattle.colour_sorts.specs.declared.sorts.Sort.{Sort, out-Sort, roll-Sort, roll-out-Sort}
 use Rattle.colour_sorts.specs.declared.sorts.Sort.TheOpen as layer
 use Rattle.colour_sorts.specs.declared.sorts.Sort.TheVariants as sort
-use Rattle.colour_sorts.specs.declared.written.Member.{Member}
-use Rattle.colour_sorts.specs.declared.written.Member.TheVariants as member
-use Rattle.colour_sorts.specs.declared.written.Span.{Span}
+use Rattle.net_model.specs.declared.sorts.Member.{Member}
+use Rattle.net_model.specs.declared.sorts.Member.TheVariants as member
+use Rattle.net_model.specs.declared.sorts.Span.{Span}
 use Rattle.colour_sorts.specs.Colours.{span_length, span_numbers}
 use Rattle.colour_sorts.specs.Dividing.{is_colour, is_colour_layer, is_member, is_member_layer}
 use Rattle.colour_sorts.specs.Filling.{IsColourAt, IsMemberAt}
 use Rattle.colour_sorts.specs.Places.{IsPlace}
 use Rattle.colour_sorts.proofs.Grouped.{any-place, not-true, place-any}
 use Rattle.colour_sorts.proofs.PlacesIn.{none-is-some, number-found, number-last, rising-only, slice_get-mapped, some-is-some, steps_up}
-use Rattle.colour_sorts.proofs.Walks.{equal-or-not}
+use Rattle.colour_sorts.proofs.Has.{equal-or-not}
 
 colour-Constant : (name id : List ℕ) → is_colour (colour.Constant name) (member.Constant id) ≡ bytes_eq name id
 colour-Constant name id = ap (λ l. is_colour_layer l (member.Constant id)) (colour.outs-Constant name)
@@ -165,3 +165,9 @@ sort-other constants s m a b c = by (out-Sort s) refl
     by (layer.Listed at) e = absurd (a at (back (layer.Listed at) e ∙ sort.rolls-Listed at))
     by (layer.Cyclic at) e = absurd (b at (back (layer.Cyclic at) e ∙ sort.rolls-Cyclic at))
     by (layer.Range span) e = absurd (c span (back (layer.Range span) e ∙ sort.rolls-Range span))
+
+-- what is no constant is no member of an enumeration
+pub no-constant : (constants : List (List (List ℕ))) (at : ℕ) (m : Member) → ((name : List ℕ) → m ≡ member.Constant name → ⊥) → is_member_layer {A = Sort} constants (layer.Listed at) m ≡ false
+no-constant constants at member.Dot other = refl
+no-constant constants at (member.Constant name) other = absurd (other name refl)
+no-constant constants at (member.Number value span) other = refl

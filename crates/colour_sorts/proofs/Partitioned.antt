@@ -3,18 +3,19 @@ use Rattle.std.proofs.Common.{◌≡◌, ℕ, ◌+◌, ◌<◌, ◌≤◌, ◌^�
 use Rattle.std.proofs.lemmas.List.{append_assoc, length-map, map-append, take-append-drop, take_more}
 use Rattle.colour_sorts.specs.declared.rules.Rule.{Rule}
 use Rattle.colour_sorts.specs.declared.rules.Rule.TheVariants as rule
-use Rattle.colour_sorts.specs.declared.written.NamedSort.{NamedSort}
-use Rattle.colour_sorts.specs.declared.written.Partition.{Partition}
-use Rattle.colour_sorts.specs.declared.written.SortTerm.{SortTerm}
+use Rattle.net_model.specs.declared.sorts.NamedSort.{NamedSort}
+use Rattle.net_model.specs.declared.sorts.Partition.{Partition}
+use Rattle.net_model.specs.declared.sorts.SortTerm.{SortTerm}
 use Rattle.colour_sorts.specs.declared.sorts.Sort.{Sort}
 use Rattle.colour_sorts.specs.Colours.{size}
 use Rattle.colour_sorts.specs.Dividing.{after, broken_blocks, broken_partition}
 use Rattle.colour_sorts.specs.Limits.{broken_in}
 use Rattle.colour_sorts.specs.declared.domains.Division.{Division}
 use Rattle.colour_sorts.specs.Calls.{AreDivided}
-use Rattle.colour_sorts.specs.Domain.{Domain, Fault, StandsFor, before, blocks_of, domain_of, element_ids, fault_at, first_fault, partition_fault, partition_sort_of, sort_fault_from, with_partitions}
+use Rattle.net_model.specs.Ids.{constants_of, element_ids}
+use Rattle.colour_sorts.specs.Domain.{Domain, Fault, StandsFor, before, blocks_of, domain_of, fault_at, first_fault, partition_fault, partition_sort_of, sort_fault_from, with_partitions}
 use Rattle.colour_sorts.specs.Held.{blocks_of_division, sort_of_division}
-use Rattle.colour_sorts.specs.Naming.{broken_rule, constants_of, has_end, is_known, sort_of}
+use Rattle.colour_sorts.specs.Naming.{broken_rule, has_end, is_known, sort_of}
 use Rattle.colour_sorts.proofs.PlacesIn.{none-is-some}
 use Rattle.colour_sorts.proofs.Sizes.{unbroken-size}
 

@@ -5,7 +5,7 @@ use Rattle.std.proofs.lemmas.Option.{slice_get-map, slice_get_within, get_or_fro
 use Rattle.std.specs.List.{slice_get}
 use Rattle.std.specs.Option.{option_map}
 use Rattle.std.specs.Prelude.{IfSome}
-use Rattle.colour_sorts.specs.declared.written.Span.{Span}
+use Rattle.net_model.specs.declared.sorts.Span.{Span}
 use Rattle.colour_sorts.specs.Colours.{natural_part, rising, span_length, span_numbers}
 use Rattle.colour_sorts.specs.Places.{IsPlace}
 use Rattle.colour_sorts.proofs.Folds.{length-rising}

@@ -8,17 +8,22 @@ use Rattle.std.specs.List.{list_all, list_any}
 use Rattle.std.specs.Prelude.{◌==◌}
 use Rattle.colour_sorts.specs.declared.facts.Facts.{Facts}
 use Rattle.colour_sorts.specs.declared.facts.Mark.{Mark}
-use Rattle.colour_sorts.specs.declared.written.NamedSort.{NamedSort}
-use Rattle.colour_sorts.specs.declared.written.SortTerm.{SortTerm}
-use Rattle.colour_sorts.specs.declared.written.SortTerm.TheVariants as term
+use Rattle.net_model.specs.declared.sorts.NamedSort.{NamedSort}
+use Rattle.net_model.specs.declared.sorts.SortTerm.{SortTerm}
+use Rattle.net_model.specs.declared.sorts.SortTerm.TheVariants as term
 use Rattle.colour_sorts.specs.declared.sorts.Sort.{Sort}
 use Rattle.colour_sorts.specs.declared.sorts.Sort.TheVariants as sort
 use Rattle.colour_sorts.specs.Colours.{colours, size, tuples}
 use Rattle.colour_sorts.specs.Limits.{all_together, depth, depth_part, greatest, is_upside_down, is_upside_down_part, lacks_components, lacks_components_part, lacks_constants, lacks_constants_part, sorts_in, sorts_in_part}
-use Rattle.colour_sorts.specs.Naming.{constants_of, ends_within, is_known_within, names_pass, names_pass_part, sort_by, sort_by_part, sort_within}
+use Rattle.net_model.specs.Ids.{constants_of}
+use Rattle.colour_sorts.specs.Naming.{ends_within, is_known_within, names_pass, names_pass_part, sort_by, sort_by_part, sort_within}
 use Rattle.colour_sorts.specs.Judging.{IsFacts, IsJudged, IsWaiting, joined}
+use Rattle.colour_sorts.specs.Searching.{Has, places_named}
 use Rattle.colour_sorts.proofs.Folds.{size-Product}
-use Rattle.colour_sorts.proofs.Layers.{at-Product, term-Product}
+use Rattle.net_model.proofs.Layers.{term-Product}
+use Rattle.colour_sorts.proofs.Layers.{at-Product}
+use Rattle.colour_sorts.proofs.Has.{has-part}
+use Rattle.colour_sorts.proofs.Named.{places-Product}
 use Rattle.colour_sorts.proofs.Tuples.{length-tuples, step}
 
 -- the facts of a product of sorts, where its first components are joined and the rest are to be
@@ -175,7 +180,7 @@ pub waiting-part : (ids : List (List ℕ)) (marks : List Mark) (parts : List Sor
 waiting-part ids marks parts i part at within is known = record {
   within = known.within;
   open_ = known.open_;
-  named = λ test h. term-Product (names_pass_part test) parts ∙ all-fails (names_pass test) parts i part within (sym is) (known.named test h);
+  named = subst (λ l. Has l at) (sym (places-Product ids parts)) (has-part (places_named ids) parts i part at within (sym is) known.named);
 }
 
 -- the same by places in the list of components

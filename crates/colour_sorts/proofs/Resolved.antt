@@ -1,10 +1,9 @@
 -- What is held of the named sorts, where it stands for declarations.
 use Rattle.std.proofs.Common.{◌≡◌, ℕ, zero, suc, ◌+◌, ◌<◌, Bool, true, false, not, cond, ◌&&◌, List, [], ◌∷◌, map, length, get_or, refl, sym, ap, ◌∙◌, arith, subst, Some, None, Option}
-use Rattle.std.proofs.lemmas.Bool.{false≢true}
 use Rattle.std.proofs.lemmas.List.{get_or-map, length-map}
 use Rattle.std.proofs.lemmas.List.Quantifiers.{position-Some}
-use Rattle.std.proofs.lemmas.Option.{get_or_from_slice_get}
-use Rattle.std.specs.List.{list_all, slice_get}
+use Rattle.std.proofs.lemmas.Option.{get_or_from_slice_get, slice_get_within}
+use Rattle.std.specs.List.{slice_get}
 use Rattle.std.specs.Str.{bytes_eq}
 use Rattle.colour_sorts.specs.declared.facts.Facts.{Facts}
 use Rattle.colour_sorts.specs.declared.facts.Mark.{Mark}
@@ -13,41 +12,18 @@ use Rattle.colour_sorts.specs.declared.rules.Rule.{Rule}
 use Rattle.colour_sorts.specs.declared.rules.Rule.TheVariants as rule
 use Rattle.colour_sorts.specs.declared.sorts.Sort.{Sort}
 use Rattle.colour_sorts.specs.declared.sorts.Sort.TheVariants as sort
-use Rattle.colour_sorts.specs.declared.written.NamedSort.{NamedSort}
-use Rattle.colour_sorts.specs.declared.written.Partition.{Partition}
-use Rattle.colour_sorts.specs.declared.written.SortTerm.{SortTerm, map-SortTerm, roll-SortTerm, fold-roll-SortTerm}
-use Rattle.colour_sorts.specs.declared.written.SortTerm.TheFolds.{ind-SortTerm}
-use Rattle.colour_sorts.specs.declared.written.SortTerm.TheOpen as layer
+use Rattle.net_model.specs.declared.sorts.NamedSort.{NamedSort}
+use Rattle.net_model.specs.declared.sorts.Partition.{Partition}
+use Rattle.net_model.specs.declared.sorts.SortTerm.{SortTerm}
 use Rattle.colour_sorts.specs.Compiling.{AreCompiled, IsUncompiled}
 use Rattle.colour_sorts.specs.Domain.{Domain, StandsFor, sorts_from}
 use Rattle.colour_sorts.specs.Held.{AreHeld, IsHeld, sort_held}
 use Rattle.colour_sorts.specs.Judging.{AreSettled, IsFacts, IsJudged}
 use Rattle.colour_sorts.specs.Limits.{broken_in}
-use Rattle.colour_sorts.specs.Naming.{broken_rule, constants_of, enough, has_end, ids_of, is_known, names_pass, names_pass_part, place_of, sort_of, sort_within, term_at}
+use Rattle.net_model.specs.Ids.{constants_of, ids_of}
+use Rattle.colour_sorts.specs.Naming.{broken_rule, enough, has_end, is_known, place_of, sort_of, sort_within, term_at}
 use Rattle.colour_sorts.proofs.PlacesIn.{none-is-some, some-is-some}
 use Rattle.colour_sorts.proofs.Walks.{done-is}
-
--- every term passes a test that all names pass
-abbrev passes : SortTerm → Type 0
-passes t = names_pass (λ _. true) t ≡ true
-
-all-pass : (ys : List ((t : SortTerm) × passes t)) → list_all (λ b. b) (map (names_pass (λ _. true)) (map (λ e. e.0) ys)) ≡ true
-all-pass [] = refl
-all-pass (y ∷ ys) = let first = y.1 in let rest = all-pass ys in ap (λ b. b && list_all (λ b. b) (map (names_pass (λ _. true)) (map (λ e. e.0) ys))) first ∙ rest
-
-layer-passes : (y : layer.SortTerm-F ((t : SortTerm) × passes t))
-    → names_pass_part (λ _. true) (map-SortTerm SortTerm Bool (names_pass (λ _. true)) (map-SortTerm ((t : SortTerm) × passes t) SortTerm (λ e. e.0) y)) ≡ true
-layer-passes layer.Dot = refl
-layer-passes (layer.Named id) = refl
-layer-passes (layer.Product ys) = all-pass ys
-layer-passes (layer.Range span) = refl
-layer-passes (layer.Listed names) = refl
-layer-passes (layer.Cyclic names) = refl
-
-pub every-passes : (t : SortTerm) → passes t
-every-passes = ind-SortTerm passes (λ x y is.
-    subst (λ z. passes (roll-SortTerm z)) is
-    (fold-roll-SortTerm Bool (names_pass_part (λ _. true)) (map-SortTerm ((t : SortTerm) × passes t) SortTerm (λ e. e.0) y) ∙ layer-passes y))
 
 -- the sorts of named sorts by their positions
 pub sorts_from-at : (all : List NamedSort) (n : ℕ) (rest : List NamedSort) (at : ℕ) → at < length rest → get_or (sorts_from all n rest) at sort.Dot ≡ sort_of all (n + at) (term_at rest at)
@@ -114,12 +90,10 @@ rule-of-unknown sorts t f judged known =
 
 -- all named sorts have their sorts
 pub never-uncompiled : (ids : List (List ℕ)) (constants : List (List (List ℕ))) (compiled : List (Option Sort)) (marks : List Mark) (t : SortTerm)
-    → AreHeld constants compiled marks → length compiled ≡ length ids → IsUncompiled ids compiled t → ⊥
-never-uncompiled ids constants compiled marks t held long waits =
-    false≢true (sym (waits (λ _. true) (λ id at place none.
-    (let within = (position-Some (bytes_eq id) ids at id place).0 in
-    let h = held.held at (omega (arith, within, long)) in
-    absurd (none-is-some h.0 (some-is-some None (Some h.0) (sym none ∙ h.2)))))) ∙ every-passes t)
+    → AreHeld constants compiled marks → IsUncompiled ids compiled t → ⊥
+never-uncompiled ids constants compiled marks t held (at, _, none) =
+    let h = held.held at (slice_get_within compiled at None none) in
+    none-is-some h.0 (some-is-some None (Some h.0) (sym none ∙ h.2))
 
 pub none-if-not-some : (o : Option Rule) → ((r : Rule) → o ≡ Some r → ⊥) → o ≡ None
 none-if-not-some None never = refl

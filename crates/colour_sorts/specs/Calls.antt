@@ -1,18 +1,20 @@
 -- What the calls on a domain answer.
-use Rattle.std.specs.Prelude.{◌≡◌, ℕ, ⊤, List, [], Option, None, Some, Result, Ok, Err, map, position, slice_index_or}
+use Rattle.std.specs.Prelude.{◌≡◌, ℕ, ◌<◌, ⊤, List, [], Option, None, Some, Result, Ok, Err, length, map, position, slice_index_or}
 use Rattle.std.specs.List.{list_any, position_or_len}
 use Rattle.std.specs.Str.{bytes_eq}
 use Rattle.colour_sorts.specs.declared.rules.ResolveFault.{ResolveFault}
 use Rattle.colour_sorts.specs.declared.rules.ResolveFault.TheVariants as refusal
+use Rattle.colour_sorts.specs.declared.rules.Rule.TheVariants as rule
 use Rattle.colour_sorts.specs.declared.rules.SortFault.{SortFault}
 use Rattle.colour_sorts.specs.declared.rules.SortFault.TheVariants as fault
 use Rattle.colour_sorts.specs.declared.sorts.Declared.{Declared}
 use Rattle.colour_sorts.specs.declared.sorts.Declared.TheVariants as declared
 use Rattle.colour_sorts.specs.declared.sorts.Sort.{Sort}
 use Rattle.colour_sorts.specs.declared.sorts.Sort.TheVariants as sort
-use Rattle.colour_sorts.specs.declared.written.NamedSort.{NamedSort}
-use Rattle.colour_sorts.specs.declared.written.Partition.{Partition}
-use Rattle.colour_sorts.specs.declared.written.SortTerm.{SortTerm}
+use Rattle.net_model.specs.declared.sorts.NamedSort.{NamedSort}
+use Rattle.net_model.specs.declared.sorts.Partition.{Partition}
+use Rattle.net_model.specs.declared.sorts.SortTerm.{SortTerm}
+use Rattle.net_model.specs.declared.sorts.SortTerm.TheVariants as term
 use Rattle.colour_sorts.specs.Colours.{constants_at}
 use Rattle.colour_sorts.specs.Naming.{at_place, broken_rule, sort_of}
 use Rattle.colour_sorts.specs.declared.domains.Division.{Division}
@@ -57,3 +59,8 @@ pub record AreDivided (sorts : List NamedSort) (partitions : List Partition) (di
   pub sound : partition_fault sorts partitions ≡ None
   pub sorts_match : map sort_of_division divisions ≡ map (partition_sort_of sorts) partitions
   pub blocks_match : map blocks_of_division divisions ≡ map (blocks_of sorts) partitions
+
+-- the named sort at a position has the sort that a name stands for, or none has where the name is unknown
+abbrev pub IsNamedSort : Domain → List NamedSort → List ℕ → Option ℕ → Type 0
+IsNamedSort domain sorts id None = broken_rule sorts 0 (term.Named id) ≡ Some rule.UnknownSort
+IsNamedSort domain sorts id (Some at) = (at < length domain.ids) × (broken_rule sorts 0 (term.Named id) ≡ None) × (sort_at domain.sorts at ≡ sort_of sorts 0 (term.Named id))

@@ -1,7 +1,7 @@
 -- The colours of a sort as values, in their order (ISO/IEC 15909-1, sorts and their carrier sets). The order of the list, and so
 -- the number of a colour, which is its place in the list, are this project's own.
 use Rattle.std.specs.Prelude.{ℕ, zero, suc, List, [], ◌∷◌, ℤ, pos, negsuc, ◌+ℤ◌, ◌-ℤ◌, map, length, slice_index_or, flat_map}
-use Rattle.colour_sorts.specs.declared.written.Span.{Span}
+use Rattle.net_model.specs.declared.sorts.Span.{Span}
 use Rattle.colour_sorts.specs.declared.sorts.Sort.{Sort, fold-Sort}
 use Rattle.colour_sorts.specs.declared.sorts.Sort.TheOpen.{Sort-F, Dot, Listed, Cyclic, Range, Product}
 use Rattle.colour_sorts.specs.declared.sorts.Colour.{Colour, roll-Colour}

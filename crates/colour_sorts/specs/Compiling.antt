@@ -1,9 +1,11 @@
 -- The sorts that terms stand for, by those of the named sorts as far as they are compiled.
-use Rattle.std.specs.Prelude.{◌≡◌, ℕ, ◌+◌, ◌<◌, Bool, false, List, [], ◌∷◌, length, map, slice_get, Option, None, Some}
+use Rattle.std.specs.Prelude.{◌≡◌, ℕ, ◌+◌, ◌<◌, List, [], ◌∷◌, length, map, slice_get, Option, None, Some}
 use Rattle.colour_sorts.specs.declared.sorts.Sort.{Sort}
-use Rattle.colour_sorts.specs.declared.written.NamedSort.{NamedSort}
-use Rattle.colour_sorts.specs.declared.written.SortTerm.{SortTerm}
-use Rattle.colour_sorts.specs.Naming.{ends_within, ids_of, names_pass, place_of, sort_by, sort_within}
+use Rattle.net_model.specs.declared.sorts.NamedSort.{NamedSort}
+use Rattle.net_model.specs.declared.sorts.SortTerm.{SortTerm}
+use Rattle.net_model.specs.Ids.{ids_of}
+use Rattle.colour_sorts.specs.Naming.{place_of, sort_by, sort_within}
+use Rattle.colour_sorts.specs.Searching.{Has, places_named}
 
 abbrev pub one_if_some : Option Sort → ℕ
 one_if_some None = 0
@@ -23,9 +25,7 @@ IsCompiledBy ids compiled at t s = (sorts : List NamedSort) (steps : ℕ) → id
 
 -- a name in the term isn't compiled
 abbrev pub IsUncompiled : List (List ℕ) → List (Option Sort) → SortTerm → Type 0
-IsUncompiled ids compiled t = (test : List ℕ → Bool)
-    → ((id : List ℕ) (at : ℕ) → place_of ids id ≡ Some at → slice_get compiled at ≡ Some None → test id ≡ false)
-    → names_pass test t ≡ false
+IsUncompiled ids compiled t = (at : ℕ) × Has (places_named ids t) at × (slice_get compiled at ≡ Some None)
 
 abbrev pub AreCompiledBy : List (List ℕ) → List (Option Sort) → ℕ → List SortTerm → List Sort → Type 0
 AreCompiledBy ids compiled at ts ss = (sorts : List NamedSort) (steps : ℕ) → ids ≡ ids_of sorts → AreCompiled sorts compiled steps → ss ≡ map (sort_by (sort_within sorts steps) at) ts
@@ -45,7 +45,3 @@ AreAllCompiled compiled most = (at : ℕ) → at < most → IsCompiledAt compile
 -- what is compiled stays so
 abbrev pub Grows : List (Option Sort) → List (Option Sort) → Type 0
 Grows old now = (at : ℕ) → slice_get now at ≡ Some None → slice_get old at ≡ Some None
-
--- below a position, what isn't compiled has a way that doesn't end in so many steps
-abbrev pub IsReached : List NamedSort → List (Option Sort) → ℕ → ℕ → Type 0
-IsReached sorts compiled steps most = (id : List ℕ) (at : ℕ) → place_of (ids_of sorts) id ≡ Some at → at < most → slice_get compiled at ≡ Some None → ends_within sorts steps id ≡ false

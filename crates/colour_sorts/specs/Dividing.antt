@@ -5,17 +5,18 @@ use Rattle.std.specs.List.{list_all, list_any, position_or_len}
 use Rattle.std.specs.Str.{bytes_eq}
 use Rattle.colour_sorts.specs.declared.rules.Rule.{Rule}
 use Rattle.colour_sorts.specs.declared.rules.Rule.TheVariants as rule
-use Rattle.colour_sorts.specs.declared.written.NamedSort.{NamedSort}
-use Rattle.colour_sorts.specs.declared.written.Member.{Member}
-use Rattle.colour_sorts.specs.declared.written.Member.TheVariants as member
-use Rattle.colour_sorts.specs.declared.written.Block.{Block}
-use Rattle.colour_sorts.specs.declared.written.Partition.{Partition}
+use Rattle.net_model.specs.declared.sorts.NamedSort.{NamedSort}
+use Rattle.net_model.specs.declared.sorts.Member.{Member}
+use Rattle.net_model.specs.declared.sorts.Member.TheVariants as member
+use Rattle.net_model.specs.declared.sorts.Block.{Block}
+use Rattle.net_model.specs.declared.sorts.Partition.{Partition}
 use Rattle.colour_sorts.specs.declared.sorts.Sort.{Sort, out-Sort}
 use Rattle.colour_sorts.specs.declared.sorts.Sort.TheOpen.{Sort-F, Dot, Listed, Cyclic, Range, Product}
 use Rattle.colour_sorts.specs.declared.sorts.Colour.{Colour, out-Colour}
 use Rattle.colour_sorts.specs.declared.sorts.Colour.TheOpen as layer
 use Rattle.colour_sorts.specs.Colours.{colours, constants_at}
-use Rattle.colour_sorts.specs.Naming.{broken_rule, constants_of, sort_of}
+use Rattle.net_model.specs.Ids.{constants_of}
+use Rattle.colour_sorts.specs.Naming.{broken_rule, sort_of}
 
 -- only enumerations and ranges are divided
 abbrev pub can_be_divided_layer : {A : Type 0} → Sort-F A → Bool

@@ -4,12 +4,12 @@ use Rattle.std.specs.List.{IsDistinct}
 use Rattle.std.specs.Str.{bytes_eq}
 use Rattle.colour_sorts.specs.declared.rules.Rule.{Rule}
 use Rattle.colour_sorts.specs.declared.breaking.BrokenSort.{BrokenSort}
-use Rattle.colour_sorts.specs.declared.written.NamedSort.{NamedSort}
-use Rattle.colour_sorts.specs.declared.written.Partition.{Partition}
+use Rattle.net_model.specs.declared.sorts.NamedSort.{NamedSort}
+use Rattle.net_model.specs.declared.sorts.Partition.{Partition}
 use Rattle.colour_sorts.specs.declared.sorts.Sort.{Sort}
 use Rattle.colour_sorts.specs.Colours.{colours}
-use Rattle.colour_sorts.specs.Groups.{names_in}
-use Rattle.colour_sorts.specs.Naming.{broken_rule, constants_of, ends_within, enough, ids_of, is_known_within, place_of, sort_of, sort_within, term_at}
+use Rattle.net_model.specs.Ids.{constants_of, element_ids, ids_of, names_in}
+use Rattle.colour_sorts.specs.Naming.{broken_rule, ends_within, enough, is_known_within, place_of, sort_of, sort_within, term_at}
 use Rattle.colour_sorts.specs.Dividing.{block_with, broken_partition}
 
 -- the named sorts: their ids, the constants that each declares, and the sorts that they stand for; and the partitions: their ids,
@@ -27,9 +27,6 @@ pub record Domain : Type 0 where
 abbrev pub sorts_from : List NamedSort → ℕ → List NamedSort → List Sort
 sorts_from sorts at [] = []
 sorts_from sorts at (s ∷ more) = sort_of sorts at s.sort ∷ sorts_from sorts (at + 1) more
-
-abbrev pub element_ids : Partition → List (List ℕ)
-element_ids p = map (λ element. element.id) p.elements
 
 abbrev pub partition_sort_of : List NamedSort → Partition → Sort
 partition_sort_of sorts p = sort_of sorts 0 p.sort
@@ -98,16 +95,3 @@ pub record StandsFor (domain : Domain) (sorts : List NamedSort) (partitions : Li
   pub ends : (id : List ℕ) → ends_within sorts (enough sorts) id ≡ true
   pub known : (id : List ℕ) (at : ℕ) → place_of (ids_of sorts) id ≡ Some at → is_known_within sorts (enough sorts) id ≡ true
   pub named : (id : List ℕ) (at : ℕ) → place_of (ids_of sorts) id ≡ Some at → sort_within sorts (enough sorts) id ≡ sort_of sorts at (term_at sorts at)
-
--- ids and constants that are told apart, of fewer than 2^32 - 1 in each list
-pub record AreDistinct (sorts : List NamedSort) (partitions : List Partition) : Type 0 where
-  pub ids : IsDistinct bytes_eq (ids_of sorts)
-  pub constants : IsDistinct bytes_eq (names_in (constants_of sorts))
-  pub divisions : IsDistinct bytes_eq (map (λ p. p.id) partitions)
-  pub elements : IsDistinct bytes_eq (names_in (map element_ids partitions))
-
-pub record AreCounted (sorts : List NamedSort) (partitions : List Partition) : Type 0 where
-  pub ids : length sorts < 2 ^ 32 - 1
-  pub constants : length (names_in (constants_of sorts)) < 2 ^ 32 - 1
-  pub divisions : length partitions < 2 ^ 32 - 1
-  pub elements : length (names_in (map element_ids partitions)) < 2 ^ 32 - 1

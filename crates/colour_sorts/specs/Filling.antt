@@ -1,9 +1,9 @@
 -- Blocks of partitions by the numbers of colours.
 use Rattle.std.specs.Prelude.{◌≡◌, ℕ, ◌<◌, ◌≤◌, ◌⊎◌, Bool, true, false, nat_eq, List, length, Option, Some, MatchOption, slice_get, slice_index_or}
 use Rattle.std.specs.List.{count_by}
-use Rattle.colour_sorts.specs.declared.written.Block.{Block}
+use Rattle.net_model.specs.declared.sorts.Block.{Block}
 use Rattle.colour_sorts.specs.declared.sorts.Colour.{Colour}
-use Rattle.colour_sorts.specs.declared.written.Member.{Member}
+use Rattle.net_model.specs.declared.sorts.Member.{Member}
 use Rattle.colour_sorts.specs.Dividing.{block_with, is_colour, members_of}
 
 -- the member is the colour at the place, and no other

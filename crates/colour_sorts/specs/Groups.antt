@@ -3,6 +3,7 @@ use Rattle.std.specs.Prelude.{◌≡◌, ℕ, ◌+◌, ◌<◌, ◌≤◌, ◌^�
 use Rattle.std.specs.List.{IsDistinct}
 use Rattle.std.specs.Str.{bytes_eq}
 use Rattle.colour_sorts.specs.declared.groups.Group.{Group}
+use Rattle.net_model.specs.Ids.{names_in}
 
 -- the names of a group
 abbrev pub names_of : List (List ℕ) → Group → List (List ℕ)
@@ -10,10 +11,6 @@ names_of names g = take g.count (drop g.first names)
 
 abbrev pub is_part : List (List ℕ) → Group → Type 0
 is_part names g = g.first + g.count ≤ length names
-
--- the names of all groups
-abbrev pub names_in : List (List (List ℕ)) → List (List ℕ)
-names_in groups = flat_map (λ group. group) groups
 
 -- a number is in the group
 abbrev pub HasNumber : Group → ℕ → Type 0

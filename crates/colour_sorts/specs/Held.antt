@@ -1,5 +1,5 @@
 -- What is held of the named sorts, and of the partitions.
-use Rattle.std.specs.Prelude.{◌≡◌, ℕ, ◌<◌, ◌⊎◌, true, List, length, Option, None, Some, slice_get}
+use Rattle.std.specs.Prelude.{◌≡◌, ℕ, ◌<◌, ◌⊎◌, true, List, length, Option, None, Some, IfSome, slice_get}
 use Rattle.colour_sorts.specs.declared.domains.Division.{Division}
 use Rattle.colour_sorts.specs.declared.facts.Facts.{Facts}
 use Rattle.colour_sorts.specs.declared.facts.Mark.{Mark}
@@ -8,6 +8,14 @@ use Rattle.colour_sorts.specs.declared.sorts.Sort.{Sort}
 use Rattle.colour_sorts.specs.declared.sorts.Sort.TheVariants as sort
 use Rattle.colour_sorts.specs.Colours.{constants_at}
 use Rattle.colour_sorts.specs.Judging.{AreCapped, IsFacts}
+
+-- the sort of a number among sorts
+abbrev pub sort_numbered : List Sort → Option ℕ → Option Sort
+sort_numbered sorts None = None
+sort_numbered sorts (Some number) = slice_get sorts number
+
+abbrev pub IsNumber : List Sort → Option ℕ → Type 0
+IsNumber sorts number = IfSome number (λ n. n < length sorts)
 
 -- the sort of a named sort: all are there
 abbrev pub sort_held : Option Sort → Sort

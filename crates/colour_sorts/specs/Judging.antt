@@ -4,11 +4,13 @@ use Rattle.colour_sorts.specs.declared.facts.Facts.{Facts}
 use Rattle.colour_sorts.specs.declared.facts.Mark.{Mark}
 use Rattle.colour_sorts.specs.declared.facts.Mark.TheVariants.{Done}
 use Rattle.colour_sorts.specs.declared.sorts.Sort.{Sort}
-use Rattle.colour_sorts.specs.declared.written.NamedSort.{NamedSort}
-use Rattle.colour_sorts.specs.declared.written.SortTerm.{SortTerm}
+use Rattle.net_model.specs.declared.sorts.NamedSort.{NamedSort}
+use Rattle.net_model.specs.declared.sorts.SortTerm.{SortTerm}
 use Rattle.colour_sorts.specs.Colours.{constants_at, size}
 use Rattle.colour_sorts.specs.Limits.{depth, is_upside_down, lacks_components, lacks_constants, sorts_in}
-use Rattle.colour_sorts.specs.Naming.{constants_of, ends_within, ids_of, is_known_within, names_pass, place_of, sort_by, sort_within}
+use Rattle.net_model.specs.Ids.{constants_of, ids_of}
+use Rattle.colour_sorts.specs.Naming.{ends_within, is_known_within, names_pass, place_of, sort_by, sort_within}
+use Rattle.colour_sorts.specs.Searching.{Has, places_named}
 
 pub record IsFacts (constants : List (List (List ℕ))) (s : Sort) (facts : Facts) : Type 0 where
   pub upside_down : facts.is_upside_down ≡ is_upside_down s
@@ -52,11 +54,11 @@ pub record IsJudged (sorts : List NamedSort) (steps at : ℕ) (t : SortTerm) (fa
 abbrev pub AreSettled : List NamedSort → List Mark → ℕ → Type 0
 AreSettled sorts marks steps = (id : List ℕ) (at : ℕ) (facts : Facts) → place_of (ids_of sorts) id ≡ Some at → slice_get marks at ≡ Some (Done facts) → IsSettled sorts steps id facts
 
--- a name in the term has the position of a named sort that isn't done
+-- the term names the named sort at a position, which isn't done
 pub record IsWaiting (ids : List (List ℕ)) (marks : List Mark) (t : SortTerm) (at : ℕ) : Type 0 where
   pub within : at < length ids
   pub open_ : (facts : Facts) → slice_get marks at ≡ Some (Done facts) → ⊥
-  pub named : (test : List ℕ → Bool) → ((id : List ℕ) → place_of ids id ≡ Some at → test id ≡ false) → names_pass test t ≡ false
+  pub named : Has (places_named ids t) at
 
 -- the numbers of all facts stop just above their limits
 abbrev pub AreMarksCapped : List Mark → Type 0

@@ -12,3 +12,7 @@ pub mod Held
 pub mod Walking
 pub mod Compiling
 pub mod Searching
+pub mod Knowing
+pub mod Comparing
+pub mod Words
+pub mod Instances

@@ -4,38 +4,23 @@ use Rattle.std.specs.List.{list_all}
 use Rattle.std.specs.Str.{bytes_eq}
 use Rattle.colour_sorts.specs.declared.rules.Rule.{Rule}
 use Rattle.colour_sorts.specs.declared.rules.Rule.TheVariants as rule
-use Rattle.colour_sorts.specs.declared.written.NamedSort.{NamedSort}
-use Rattle.colour_sorts.specs.declared.written.SortTerm.{SortTerm, out-SortTerm, fold-SortTerm}
-use Rattle.colour_sorts.specs.declared.written.SortTerm.TheOpen.{SortTerm-F, Dot, Named, Product, Range, Listed, Cyclic}
-use Rattle.colour_sorts.specs.declared.written.SortTerm.TheVariants as term
+use Rattle.net_model.specs.declared.sorts.NamedSort.{NamedSort}
+use Rattle.net_model.specs.declared.sorts.SortTerm.{SortTerm, out-SortTerm, fold-SortTerm}
+use Rattle.net_model.specs.declared.sorts.SortTerm.TheOpen.{SortTerm-F, Dot, Named, Product, Range, Listed, Cyclic}
+use Rattle.net_model.specs.declared.sorts.SortTerm.TheVariants as term
 use Rattle.colour_sorts.specs.declared.sorts.Sort.{Sort, roll-Sort}
 use Rattle.colour_sorts.specs.declared.sorts.Sort.TheOpen as layer
 use Rattle.colour_sorts.specs.declared.sorts.Sort.TheVariants as sort
 use Rattle.colour_sorts.specs.Limits.{broken_in}
+use Rattle.net_model.specs.Ids.{constants_of, ids_of}
 
 -- the position of the named sort with an id
 abbrev pub place_of : List (List ℕ) → List ℕ → Option ℕ
 place_of ids id = position (bytes_eq id) ids
 
-abbrev pub ids_of : List NamedSort → List (List ℕ)
-ids_of sorts = map (λ s. s.id) sorts
-
 -- what the named sort at a position stands for
 abbrev pub term_at : List NamedSort → ℕ → SortTerm
 term_at sorts at = slice_index_or (map (λ s. s.sort) sorts) at term.Dot
-
--- the constants that a term declares
-abbrev pub constants_in_layer : {A : Type 0} → SortTerm-F A → List (List ℕ)
-constants_in_layer (Listed constants) = constants
-constants_in_layer (Cyclic constants) = constants
-constants_in_layer _ = []
-
-abbrev pub constants_in : SortTerm → List (List ℕ)
-constants_in t = constants_in_layer (out-SortTerm t)
-
--- the constants that each named sort declares
-abbrev pub constants_of : List NamedSort → List (List (List ℕ))
-constants_of sorts = map (λ s. constants_in s.sort) sorts
 
 -- whether all names in a term pass a test
 abbrev pub names_pass_part : (List ℕ → Bool) → SortTerm-F Bool → Bool

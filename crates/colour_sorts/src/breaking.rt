@@ -1,17 +1,19 @@
-ghost use Rattle.std.specs.Prelude.{◌≡◌, ◌<◌, All, [], length, replicate, IfOk, IfNone, IfSome, List};
+ghost use Rattle.std.specs.Prelude.{◌≡◌, ℕ, ◌<◌, false, length, replicate, IfOk, IfNone, IfSome, Some};
 ghost use Rattle.std.specs.List.{IsDistinct};
 ghost use Rattle.std.specs.Str.{bytes_eq};
 ghost use Rattle.colour_sorts.specs.Domain.{fault_of, sort_fault_from};
-ghost use Rattle.colour_sorts.specs.Naming.{broken_rule, ids_of, term_at};
-ghost use Rattle.colour_sorts.specs.Walking.{AreSound, IsBegun, IsDoneAt, IsWalk, KeepsDone};
+ghost use Rattle.net_model.specs.Ids.{ids_of};
+ghost use Rattle.colour_sorts.specs.Naming.{broken_rule, has_end, term_at};
+ghost use Rattle.colour_sorts.specs.Searching.{IsOrder};
+ghost use Rattle.colour_sorts.specs.Walking.{AreMarked, AreSound, IsDoneAt, IsMarkedAt};
 ghost use Rattle.colour_sorts.specs.declared.facts.Mark.TheVariants.{Fresh};
 
 use crate::facts::Mark;
 use crate::knowing::leads_to_known;
 use crate::rules::Rule;
-use crate::walking::{judge_in_order, settle};
-use crate::written::NamedSort;
+use crate::walking::judge_in_order;
 use name_tables::Ids;
+use net_model::NamedSort;
 use std::alloc::Global;
 use wide_sums::Memory;
 
@@ -25,8 +27,8 @@ pub(crate) struct BrokenSort {
 /// The first rule that a named sort breaks which is done.
 fn rule_of_done(sorts: &[NamedSort], marks: &[Mark], at: u32) -> Option<Rule>
     requires distinct { IsDistinct bytes_eq (ids_of sorts.now) }
-    requires walk { IsWalk sorts.now marks.now [] }
-    requires begun { IsBegun marks.now [] at }
+    requires marked { AreMarked sorts.now marks.now }
+    requires done { IsDoneAt marks.now at }
     requires within { at < length sorts.now }
     ensures { result ≡ broken_rule sorts.now at (term_at sorts.now at) }
 {
@@ -43,34 +45,47 @@ fn rule_of_done(sorts: &[NamedSort], marks: &[Mark], at: u32) -> Option<Rule>
     }
 }
 
+/// The first rule that a named sort breaks which leads into a circle.
+fn rule_of_circle(alloc: Global, sorts: &[NamedSort], ids: &Ids, at: u32) -> Result<Rule, Memory>
+    requires ids { ids.now ≡ ids_of sorts.now }
+    requires within { at < length sorts.now }
+    requires circle { has_end sorts.now (term_at sorts.now at) ≡ false }
+    ensures { IfOk result (λ rule. Some rule ≡ broken_rule sorts.now at (term_at sorts.now at)) }
+{
+    if leads_to_known(alloc, sorts, ids, at)? {
+        Ok(Rule::SortCircle)
+    } else {
+        Ok(Rule::UnknownSort)
+    }
+}
+
 /// The first rule that a named sort breaks; where it breaks none, it is done.
 fn rule_of(
     alloc: Global,
     sorts: &[NamedSort],
     ids: &Ids,
-    marks: &mut [Mark],
+    marks: &[Mark],
     at: u32,
 ) -> Result<Option<Rule>, Memory>
     requires ids { ids.now ≡ ids_of sorts.now }
     requires distinct { IsDistinct bytes_eq ids.now }
-    requires walk { IsWalk sorts.now marks.old [] }
+    requires marked { AreMarked sorts.now marks.now }
+    requires here { IsMarkedAt sorts.now marks.now at }
     requires within { at < length sorts.now }
     ensures rule { IfOk result (λ rule. rule ≡ broken_rule sorts.now at (term_at sorts.now at)) }
-    ensures walk { IfOk result (λ rule. IfNone rule (IsWalk sorts.now marks.new [])) }
-    ensures keeps { IfOk result (λ rule. IfNone rule (KeepsDone marks.old marks.new)) }
-    ensures done { IfOk result (λ rule. IfNone rule (IsDoneAt marks.new at)) }
+    ensures done { IfOk result (λ rule. IfNone rule (IsDoneAt marks.now at)) }
 {
-    if settle(alloc, sorts, ids, marks, at)? {
-        return Ok(rule_of_done(sorts, marks, at));
-    }
-    if leads_to_known(alloc, sorts, ids, at)? {
-        Ok(Some(Rule::SortCircle))
-    } else {
-        Ok(Some(Rule::UnknownSort))
+    let mark = marks[at as usize];
+    match mark {
+        Mark::Done(_) => Ok(rule_of_done(sorts, marks, at)),
+        Mark::Fresh => {
+            let rule = rule_of_circle(alloc, sorts, ids, at)?;
+            Ok(Some(rule))
+        }
     }
 }
 
-/// No named sort was looked at.
+/// No named sort is done.
 fn fresh_marks(alloc: Global, count: usize) -> Result<Vec<Mark>, Memory>
     ensures { IfOk result (λ marks. marks.items ≡ replicate count Fresh) }
 {
@@ -78,7 +93,7 @@ fn fresh_marks(alloc: Global, count: usize) -> Result<Vec<Mark>, Memory>
     Ok(marks)
 }
 
-/// The named sorts at these positions judged in this order.
+/// What is kept of the named sorts, judged in this order.
 pub(crate) fn judged_marks(
     alloc: Global,
     sorts: &[NamedSort],
@@ -86,29 +101,29 @@ pub(crate) fn judged_marks(
     order: &[u32],
 ) -> Result<Vec<Mark>, Memory>
     requires ids { ids.now ≡ ids_of sorts.now }
-    requires order { All (λ at. at < length ids.now) order.now }
-    ensures { IfOk result (λ marks. IsWalk sorts.now marks.items []) }
+    requires order { IsOrder sorts.now order.now }
+    ensures marked { IfOk result (λ marks. AreMarked sorts.now marks.items) }
+    ensures all { IfOk result (λ marks. (at : ℕ) → at < length sorts.now → IsMarkedAt sorts.now marks.items at) }
 {
     let mut marks = fresh_marks(alloc, sorts.len())?;
     judge_in_order(sorts, ids, marks.as_mut_slice(), order);
     Ok(marks)
 }
 
-/// The first named sort that breaks a rule, where no walk is on its way. Where there is none, all are
-/// done.
+/// The first named sort that breaks a rule, where all were judged. Where there is none, all are done.
 pub(crate) fn first_broken(
     alloc: Global,
     sorts: &[NamedSort],
     ids: &Ids,
-    marks: &mut [Mark],
+    marks: &[Mark],
 ) -> Result<Option<BrokenSort>, Memory>
     requires ids { ids.now ≡ ids_of sorts.now }
     requires distinct { IsDistinct bytes_eq ids.now }
-    requires walk { IsWalk sorts.now marks.old [] }
+    requires marked { AreMarked sorts.now marks.now }
+    requires all { (at : ℕ) → at < length sorts.now → IsMarkedAt sorts.now marks.now at }
     ensures broken { IfOk result (λ broken. fault_of sorts.now broken ≡ sort_fault_from sorts.now 0 sorts.now) }
     ensures within { IfOk result (λ broken. IfSome broken (λ b. b.at < length sorts.now)) }
-    ensures walk { IfOk result (λ broken. IfNone broken (IsWalk sorts.now marks.new [])) }
-    ensures sound { IfOk result (λ broken. IfNone broken (AreSound sorts.now marks.new (length sorts.now))) }
+    ensures sound { IfOk result (λ broken. IfNone broken (AreSound sorts.now marks.now (length sorts.now))) }
 {
     for at in 0..ids.count() {
         if let Some(rule) = rule_of(alloc, sorts, ids, marks, at)? {

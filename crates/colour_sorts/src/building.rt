@@ -1,21 +1,22 @@
-ghost use Rattle.std.specs.Prelude.{◌≡◌, ℕ, true, ◌-◌, ◌<◌, All, ◌^◌, [], Some, None, length, IfOk, IfErr, MatchResult};
+ghost use Rattle.std.specs.Prelude.{◌≡◌, ℕ, true, ◌-◌, ◌<◌, ◌^◌, [], Some, None, length, IfOk, IfErr, MatchResult};
 ghost use Rattle.std.specs.List.{IsDistinct};
 ghost use Rattle.std.specs.Str.{bytes_eq};
 ghost use Rattle.colour_sorts.specs.Calls.{IsRefused};
 ghost use Rattle.colour_sorts.specs.Compiling.{AreAllCompiled, IsCompiling};
 ghost use Rattle.colour_sorts.specs.Domain.{StandsFor, fault_of, sort_fault_from};
-ghost use Rattle.colour_sorts.specs.Groups.{names_in};
-ghost use Rattle.colour_sorts.specs.Naming.{constants_in, constants_of, has_end, ids_of, term_at};
+ghost use Rattle.net_model.specs.Ids.{constants_in, constants_of, ids_of, names_in};
+ghost use Rattle.colour_sorts.specs.Naming.{has_end, term_at};
+ghost use Rattle.colour_sorts.specs.Searching.{IsOrder};
 
 use crate::breaking::{BrokenSort, first_broken, judged_marks};
-use crate::compiling::{compile_all, no_sorts};
+use crate::compiling::compile_in_order;
 use crate::domains::Domains;
 use crate::groups::Groups;
 use crate::ordering::order_of;
 use crate::rules::SortFault;
-use crate::sorts::Sort;
-use crate::written::{NamedSort, SortTerm};
+use crate::sharing::SortTable;
 use name_tables::{Ids, Name};
+use net_model::{NamedSort, SortTerm};
 use sqlite_items::Items;
 use std::alloc::Global;
 use wide_sums::Memory;
@@ -58,22 +59,21 @@ fn constants_of_sorts(alloc: Global, sorts: &[NamedSort]) -> Result<Groups, Memo
     Ok(groups)
 }
 
-/// The sorts of the named sorts, of which none leads into a circle.
+/// The sorts of the named sorts, of which none leads into a circle, compiled in this order.
 fn compiled_sorts(
     alloc: Global,
     sorts: &[NamedSort],
     ids: &Ids,
     order: &[u32],
-) -> Result<Vec<Option<Sort>>, Memory>
+) -> Result<SortTable, Memory>
     requires ids { ids.now ≡ ids_of sorts.now }
-    requires distinct { IsDistinct bytes_eq ids.now }
-    requires order { All (λ at. at < length ids.now) order.now }
+    requires order { IsOrder sorts.now order.now }
     requires ends { (at : ℕ) → at < length sorts.now → has_end sorts.now (term_at sorts.now at) ≡ true }
-    ensures compiled { IfOk result (λ compiled. IsCompiling sorts.now compiled.items) }
-    ensures all { IfOk result (λ compiled. AreAllCompiled compiled.items (length sorts.now)) }
+    ensures compiled { IfOk result (λ compiled. IsCompiling sorts.now compiled) }
+    ensures all { IfOk result (λ compiled. AreAllCompiled compiled (length sorts.now)) }
 {
-    let mut compiled = no_sorts(alloc, ids.count())?;
-    compile_all(alloc, sorts, ids, compiled.as_mut_slice(), order)?;
+    let mut compiled = SortTable::new(alloc, ids.count())?;
+    compile_in_order(alloc, sorts, ids, &mut compiled, order)?;
     Ok(compiled)
 }
 
@@ -88,8 +88,8 @@ fn compile_sorts(alloc: Global, sorts: &[NamedSort]) -> Result<Result<Domains, B
 {
     let ids = ids_of_sorts(alloc, sorts)?;
     let order = order_of(alloc, sorts, &ids)?;
-    let mut marks = judged_marks(alloc, sorts, &ids, order.as_slice())?;
-    if let Some(broken) = first_broken(alloc, sorts, &ids, marks.as_mut_slice())? {
+    let marks = judged_marks(alloc, sorts, &ids, order.as_slice())?;
+    if let Some(broken) = first_broken(alloc, sorts, &ids, marks.as_slice())? {
         return Ok(Err(broken));
     }
     let compiled = compiled_sorts(alloc, sorts, &ids, order.as_slice())?;
@@ -97,7 +97,7 @@ fn compile_sorts(alloc: Global, sorts: &[NamedSort]) -> Result<Result<Domains, B
     Ok(Ok(Domains {
         ids,
         constants,
-        sorts: Items::from_vec(compiled),
+        sorts: compiled,
         marks: Items::from_vec(marks),
         partition_ids: Ids::new(alloc),
         elements: Groups::new(alloc),

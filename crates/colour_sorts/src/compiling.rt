@@ -1,51 +1,27 @@
-ghost use Rattle.std.specs.Prelude.{◌≡◌, ℕ, suc, ◌<◌, All, ◌&&◌, true, None, length, replicate, IfOk, OnOk, MatchBool, MatchOption, ⊤};
-ghost use Rattle.colour_sorts.specs.Compiling.{AreAllCompiled, AreCompiledBy, Grows, IsCompiledAt, IsCompiledBy, IsCompiling, IsReached, IsUncompiled};
-ghost use Rattle.colour_sorts.specs.Naming.{has_end, ids_of, term_at};
+ghost use Rattle.std.specs.Prelude.{◌≡◌, ℕ, List, ◌<◌, true, length, IfOk, IfSome, OnOk, MatchOption, Some};
 ghost use Rattle.std.specs.List.{IsDistinct};
 ghost use Rattle.std.specs.Str.{bytes_eq};
-ghost use Rattle.colour_sorts.specs.declared.written.SortTerm.TheVariants as terms;
+ghost use Rattle.colour_sorts.specs.Compiling.{AreAllCompiled, AreCompiledBy, Grows, IsCompiledAt, IsCompiledBy, IsCompiling, IsUncompiled};
+ghost use Rattle.net_model.specs.Ids.{ids_of};
+ghost use Rattle.colour_sorts.specs.Naming.{has_end, place_of, term_at};
+ghost use Rattle.colour_sorts.specs.Searching.{IsOrder, Leads};
+ghost use Rattle.net_model.specs.declared.sorts.SortTerm.TheVariants as terms;
 
+use crate::comparing::copy_sort;
+use crate::sharing::SortTable;
 use crate::sorts::Sort;
-use crate::written::{NamedSort, SortTerm};
 use name_tables::Ids;
+use net_model::{NamedSort, SortTerm};
 use sqlite_items::Items;
 use std::alloc::Global;
 use wide_sums::Memory;
-
-/// Another sort of the same value.
-#[cycle(copying)]
-pub(crate) fn copy_sort(alloc: Global, sort: &Sort) -> Result<Sort, Memory>
-    ensures { IfOk result (λ copy. copy ≡ sort.now) }
-{
-    match sort {
-        Sort::Dot => Ok(Sort::Dot),
-        Sort::Listed(at) => Ok(Sort::Listed(*at)),
-        Sort::Cyclic(at) => Ok(Sort::Cyclic(*at)),
-        Sort::Range(span) => Ok(Sort::Range(*span)),
-        Sort::Product(parts) => match copy_parts(alloc, parts.as_slice()) {
-            Ok(copies) => Ok(Sort::Product(copies)),
-            Err(memory) => Err(memory),
-        },
-    }
-}
-
-#[cycle(copying)]
-fn copy_parts(alloc: Global, parts: &[Sort]) -> Result<Items<Sort>, Memory>
-    ensures { IfOk result (λ copies. copies ≡ parts.now) }
-{
-    let mut copies = Vec::with_capacity(alloc, parts.len())?;
-    for part in parts {
-        copies.push(copy_sort(alloc, part)?)?;
-    }
-    Ok(Items::from_vec(copies))
-}
 
 /// The sort of a name, `None` where it is declared and isn't compiled.
 fn compile_name(
     alloc: Global,
     name: &[u8],
     ids: &Ids,
-    compiled: &[Option<Sort>],
+    compiled: &SortTable,
 ) -> Result<Option<Sort>, Memory>
     requires { length compiled.now ≡ length ids.now }
     ensures { (at : ℕ) → IfOk result (λ sort. MatchOption sort (IsUncompiled ids.now compiled.now (terms.Named name.now)) (IsCompiledBy ids.now compiled.now at (terms.Named name.now))) }
@@ -54,7 +30,7 @@ fn compile_name(
         Some(at) => at,
         None => return Ok(Some(Sort::Dot)),
     };
-    match &compiled[at as usize] {
+    match compiled.get(at) {
         Some(sort) => match copy_sort(alloc, sort) {
             Ok(copy) => Ok(Some(copy)),
             Err(memory) => Err(memory),
@@ -70,7 +46,7 @@ pub(crate) fn compile(
     term: &SortTerm,
     at: u32,
     ids: &Ids,
-    compiled: &[Option<Sort>],
+    compiled: &SortTable,
 ) -> Result<Option<Sort>, Memory>
     requires { length compiled.now ≡ length ids.now }
     ensures { IfOk result (λ sort. MatchOption sort (IsUncompiled ids.now compiled.now term.now) (IsCompiledBy ids.now compiled.now at term.now)) }
@@ -97,7 +73,7 @@ fn compile_parts(
     parts: &[SortTerm],
     at: u32,
     ids: &Ids,
-    compiled: &[Option<Sort>],
+    compiled: &SortTable,
 ) -> Result<Option<Items<Sort>>, Memory>
     requires { length compiled.now ≡ length ids.now }
     ensures { IfOk result (λ sorts. MatchOption sorts (IsUncompiled ids.now compiled.now (terms.Product parts.now)) (AreCompiledBy ids.now compiled.now at parts.now)) }
@@ -112,114 +88,64 @@ fn compile_parts(
     Ok(Some(Items::from_vec(sorts)))
 }
 
-/// Compiles a named sort, unless it is. False where a name in it isn't compiled.
-fn attempt(
+/// The position of the named sort that a term stands for by its name.
+fn named_by(term: &SortTerm, ids: &Ids) -> Option<u32>
+    ensures { IfSome result (λ at. (id : List ℕ) × (term.now ≡ terms.Named id) × (place_of ids.now id ≡ Some at)) }
+{
+    match term {
+        SortTerm::Named(name) => ids.find(name.bytes()),
+        _ => None,
+    }
+}
+
+/// Compiles a named sort, where all are that it names. It shares the sort that it stands for by its
+/// name.
+fn compile_at(
     alloc: Global,
     sorts: &[NamedSort],
     ids: &Ids,
-    compiled: &mut [Option<Sort>],
+    compiled: &mut SortTable,
     at: u32,
-) -> Result<bool, Memory>
+) -> Result<(), Memory>
     requires ids { ids.now ≡ ids_of sorts.now }
     requires compiled { IsCompiling sorts.now compiled.old }
     requires within { at < length sorts.now }
+    requires behind { (to : ℕ) → Leads sorts.now at to → IsCompiledAt compiled.old to }
     ensures compiled { OnOk result (IsCompiling sorts.now compiled.new) }
     ensures grows { OnOk result (Grows compiled.old compiled.new) }
-    ensures attempt { IfOk result (λ done. MatchBool done (IsCompiledAt compiled.new at) (IsUncompiled ids.now compiled.new (term_at sorts.now at))) }
+    ensures here { OnOk result (IsCompiledAt compiled.new at) }
 {
-    if compiled[at as usize].is_some() {
-        return Ok(true);
+    if compiled.get(at).is_some() {
+        return Ok(());
     }
-    match compile(alloc, &sorts[at as usize].sort, at, ids, compiled)? {
-        Some(sort) => {
-            compiled[at as usize] = Some(sort);
-            Ok(true)
-        }
-        None => Ok(false),
+    let sort = &sorts[at as usize].sort;
+    if let Some(other) = named_by(sort, ids) {
+        compiled.share(at, other);
+        return Ok(());
+    }
+    match compile(alloc, sort, at, ids, compiled)? {
+        Some(sort) => compiled.put(at, sort),
+        None => unreachable!(),
     }
 }
 
-/// One attempt at each named sort at these positions, in this order.
-fn compile_in_order(
+/// Compiles the named sorts in their order, of which none leads into a circle.
+pub(crate) fn compile_in_order(
     alloc: Global,
     sorts: &[NamedSort],
     ids: &Ids,
-    compiled: &mut [Option<Sort>],
+    compiled: &mut SortTable,
     order: &[u32],
 ) -> Result<(), Memory>
     requires ids { ids.now ≡ ids_of sorts.now }
     requires compiled { IsCompiling sorts.now compiled.old }
-    requires order { All (λ at. at < length ids.now) order.now }
-    ensures { OnOk result (IsCompiling sorts.now compiled.new) }
-{
-    for at in order {
-        attempt(alloc, sorts, ids, compiled, *at)?;
-    }
-    Ok(())
-}
-
-fn both(first: bool, second: bool) -> bool
-    ensures { result ≡ first && second }
-{
-    first && second
-}
-
-/// One attempt at each named sort. True where all are compiled.
-fn attempt_all(
-    alloc: Global,
-    sorts: &[NamedSort],
-    ids: &Ids,
-    compiled: &mut [Option<Sort>],
-) -> Result<bool, Memory>
-    requires ids { ids.now ≡ ids_of sorts.now }
-    requires compiled { IsCompiling sorts.now compiled.old }
-    ensures compiled { OnOk result (IsCompiling sorts.now compiled.new) }
-    ensures reached { (steps : ℕ) → IsReached sorts.now compiled.old steps (length sorts.now) → OnOk result (IsReached sorts.now compiled.new (suc steps) (length sorts.now)) }
-    ensures complete { IfOk result (λ complete. MatchBool complete (AreAllCompiled compiled.new (length sorts.now)) ⊤) }
-{
-    let mut complete = true;
-    for at in 0..ids.count() {
-        let done = attempt(alloc, sorts, ids, compiled, at)?;
-        complete = both(complete, done);
-    }
-    Ok(complete)
-}
-
-/// Compiles all named sorts, of which none leads into a circle. One round is enough where the order
-/// has each sort behind those that it names.
-pub(crate) fn compile_all(
-    alloc: Global,
-    sorts: &[NamedSort],
-    ids: &Ids,
-    compiled: &mut [Option<Sort>],
-    order: &[u32],
-) -> Result<(), Memory>
-    requires ids { ids.now ≡ ids_of sorts.now }
-    requires distinct { IsDistinct bytes_eq ids.now }
-    requires compiled { IsCompiling sorts.now compiled.old }
-    requires order { All (λ at. at < length ids.now) order.now }
+    requires order { IsOrder sorts.now order.now }
     requires ends { (at : ℕ) → at < length sorts.now → has_end sorts.now (term_at sorts.now at) ≡ true }
     ensures compiled { OnOk result (IsCompiling sorts.now compiled.new) }
     ensures all { OnOk result (AreAllCompiled compiled.new (length sorts.now)) }
 {
-    compile_in_order(alloc, sorts, ids, compiled, order)?;
-    for _round in 0..ids.count() {
-        if attempt_all(alloc, sorts, ids, compiled)? {
-            return Ok(());
-        }
+    for at in order {
+        compile_at(alloc, sorts, ids, compiled, *at)?;
     }
-    attempt_all(alloc, sorts, ids, compiled)?;
-    attempt_all(alloc, sorts, ids, compiled)?;
     Ok(())
-}
-
-/// So many named sorts that aren't compiled.
-pub(crate) fn no_sorts(alloc: Global, count: u32) -> Result<Vec<Option<Sort>>, Memory>
-    ensures { IfOk result (λ sorts. sorts.items ≡ replicate count None) }
-{
-    let mut sorts = Vec::with_capacity(alloc, count as usize)?;
-    for _at in 0..count {
-        sorts.push(None)?;
-    }
-    Ok(sorts)
 }

@@ -3,7 +3,7 @@ ghost use Rattle.colour_sorts.specs.Colours.{colours, size, span_length, tuples}
 
 use crate::domains::Domains;
 use crate::sorts::Sort;
-use crate::written::Span;
+use net_model::Span;
 
 /// How many numbers a range has.
 pub(crate) fn span_length(span: &Span) -> u32

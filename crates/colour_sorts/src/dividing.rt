@@ -3,7 +3,7 @@ ghost use Rattle.std.specs.List.{list_all};
 ghost use Rattle.colour_sorts.specs.Colours.{colours, constants_at, size, span_length, span_numbers};
 ghost use Rattle.colour_sorts.specs.Dividing.{block_with, broken_blocks, can_be_divided as may_be_divided, is_member, members_of};
 ghost use Rattle.colour_sorts.specs.Filling.{AreFilling, HasFree, IsFull, IsMemberAt, IsTwice};
-ghost use Rattle.colour_sorts.specs.declared.written.Block.{Block as Blocks};
+ghost use Rattle.net_model.specs.declared.sorts.Block.{Block as Blocks};
 ghost use Rattle.colour_sorts.specs.declared.sorts.Colour.TheVariants as variants;
 ghost use Rattle.colour_sorts.specs.declared.sorts.Sort.TheVariants as sorts;
 
@@ -11,7 +11,7 @@ use crate::domains::Domains;
 use crate::placing::number_index;
 use crate::rules::Rule;
 use crate::sorts::Sort;
-use crate::written::{Block, Member, Span};
+use net_model::{Block, Member, Span};
 use std::alloc::Global;
 use wide_sums::Memory;
 

@@ -1,5 +1,6 @@
 use crate::facts::Mark;
 use crate::groups::Groups;
+use crate::sharing::SortTable;
 use crate::sorts::Sort;
 use name_tables::Ids;
 use sqlite_items::Items;
@@ -20,7 +21,7 @@ pub(crate) struct Division {
 pub struct Domains {
     pub(crate) ids: Ids,
     pub(crate) constants: Groups,
-    pub(crate) sorts: Items<Option<Sort>>,
+    pub(crate) sorts: SortTable,
     pub(crate) marks: Items<Mark>,
     pub(crate) partition_ids: Ids,
     pub(crate) elements: Groups,

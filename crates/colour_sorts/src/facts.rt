@@ -21,10 +21,8 @@ pub(crate) struct Facts {
 /// How far a named sort is.
 #[derive(Clone, Copy, Debug, PartialEq, Eq)]
 pub(crate) enum Mark {
-    /// It wasn't looked at.
+    /// It isn't done.
     Fresh,
-    /// It waits for a sort that it names.
-    Open,
     /// All that it leads to is done.
     Done(Facts),
 }

@@ -3,7 +3,7 @@ ghost use Rattle.std.specs.List.{IsDistinct};
 ghost use Rattle.std.specs.Str.{bytes_eq};
 ghost use Rattle.colour_sorts.specs.Calls.{group_of, place_in};
 ghost use Rattle.colour_sorts.specs.Colours.{constants_at};
-ghost use Rattle.colour_sorts.specs.Groups.{names_in};
+ghost use Rattle.net_model.specs.Ids.{names_in};
 ghost use Rattle.colour_sorts.specs.Places.{IsPlace};
 
 use name_tables::{Ids, Name};

@@ -2,11 +2,11 @@ ghost use Rattle.std.specs.Prelude.{◌≡◌, ℕ, List, true, length, IfOk, If
 ghost use Rattle.colour_sorts.specs.Colours.{constants_at};
 ghost use Rattle.colour_sorts.specs.Judging.{AreCapped, AreMarksCapped, IsFacts, IsJudgedBy, IsWaiting};
 ghost use Rattle.colour_sorts.specs.declared.sorts.Sort.TheVariants as variants;
-ghost use Rattle.colour_sorts.specs.declared.written.SortTerm.TheVariants as terms;
+ghost use Rattle.net_model.specs.declared.sorts.SortTerm.TheVariants as terms;
 
 use crate::facts::{Facts, Mark};
-use crate::written::{SortTerm, Span};
 use name_tables::Ids;
+use net_model::{SortTerm, Span};
 
 /// The facts of a range.
 pub(crate) fn range_facts(span: Span) -> Facts

@@ -1,86 +1,104 @@
-ghost use Rattle.std.specs.Prelude.{◌≡◌, ◌<◌, length, map, replicate, true, IfOk};
-ghost use Rattle.colour_sorts.specs.Naming.{enough, ids_of, is_known, names_pass, term_at};
-ghost use Rattle.colour_sorts.specs.Walking.{AreKnown, known_by};
-ghost use Rattle.colour_sorts.specs.declared.written.SortTerm.TheVariants as terms;
+ghost use Rattle.std.specs.Prelude.{◌≡◌, ℕ, ◌+◌, ◌<◌, ◌≤◌, ◌++◌, ◌∷◌, [], length, replicate, true, false, IfOk, MatchBool, ⊤};
+ghost use Rattle.colour_sorts.specs.Knowing.{HasUnknown, IsKnowing, is_declared};
+ghost use Rattle.net_model.specs.Ids.{ids_of};
+ghost use Rattle.colour_sorts.specs.Naming.{is_known, names_pass, term_at};
+ghost use Rattle.colour_sorts.specs.Searching.{place_in_turn, steps_of_all};
+ghost use Rattle.colour_sorts.specs.declared.ordering.Visit.TheVariants.{Fresh};
+ghost use Rattle.net_model.specs.declared.sorts.SortTerm.TheVariants as terms;
 
-use crate::written::{NamedSort, SortTerm};
+use crate::ordering::{Turn, Visit, no_visits, push_names};
 use name_tables::Ids;
+use net_model::{NamedSort, SortTerm};
 use std::alloc::Global;
 use wide_sums::Memory;
 
-/// Whether each name in a term is declared and is known already.
+/// Whether each name in a term is declared.
 #[cycle(knowing)]
-fn names_known(term: &SortTerm, ids: &Ids, known: &[bool]) -> bool
-    requires { length known.now ≡ length ids.now }
-    ensures { result ≡ names_pass (known_by ids.now known.now) term.now }
+fn are_declared(term: &SortTerm, ids: &Ids) -> bool
+    ensures { MatchBool result (names_pass (is_declared ids.now) term.now ≡ true) (HasUnknown ids.now term.now) }
 {
     match term {
+        SortTerm::Dot => true,
         SortTerm::Named(name) => match ids.find(name.bytes()) {
-            Some(at) => known[at as usize],
+            Some(_) => true,
             None => false,
         },
-        SortTerm::Product(parts) => parts_known(parts.as_slice(), ids, known),
-        _ => true,
+        SortTerm::Product(parts) => parts_declared(parts.as_slice(), ids),
+        SortTerm::Range(_) => true,
+        SortTerm::Listed(_) => true,
+        SortTerm::Cyclic(_) => true,
     }
 }
 
 #[cycle(knowing)]
-fn parts_known(parts: &[SortTerm], ids: &Ids, known: &[bool]) -> bool
-    requires { length known.now ≡ length ids.now }
-    ensures { result ≡ names_pass (known_by ids.now known.now) (terms.Product parts.now) }
+fn parts_declared(parts: &[SortTerm], ids: &Ids) -> bool
+    ensures { MatchBool result (names_pass (is_declared ids.now) (terms.Product parts.now) ≡ true) (HasUnknown ids.now (terms.Product parts.now)) }
 {
     for part in parts {
-        if !names_known(part, ids, known) {
+        if !are_declared(part, ids) {
             return false;
         }
     }
     true
 }
 
-/// One step more along the names.
-fn known_after(
+/// Looks at a named sort, unless it was seen: what it names waits. False where it has a name that
+/// isn't declared.
+fn look_at(
+    sorts: &[NamedSort],
+    ids: &Ids,
+    visits: &mut [Visit],
+    waiting: &mut Vec<Turn>,
+    turn: Turn,
+) -> Result<bool, Memory>
+    requires ids { ids.now ≡ ids_of sorts.now }
+    requires long { length visits.old ≡ length sorts.now }
+    requires within { place_in_turn turn < length sorts.now }
+    ensures search { (root : ℕ) → root < length sorts.now → IsKnowing sorts.now visits.old (waiting.old.items ++ turn ∷ []) root
+        → IfOk result (λ known. MatchBool known (IsKnowing sorts.now visits.new waiting.new.items root) (is_known sorts.now (term_at sorts.now root) ≡ false)) }
+    ensures less { IfOk result (λ known. MatchBool known
+        (steps_of_all ids.now sorts.now visits.new + length waiting.new.items ≤ steps_of_all ids.now sorts.now visits.old + length waiting.old.items) ⊤) }
+{
+    let at = turn.place();
+    let visit = visits[at as usize];
+    match visit {
+        Visit::Fresh => {
+            visits[at as usize] = Visit::Open;
+            let sort = &sorts[at as usize].sort;
+            if !are_declared(sort, ids) {
+                return Ok(false);
+            }
+            push_names(sort, ids, waiting)?;
+            Ok(true)
+        }
+        _ => Ok(true),
+    }
+}
+
+/// Whether every name is declared that a named sort leads to, where nothing was seen.
+fn search_from(
     alloc: Global,
     sorts: &[NamedSort],
     ids: &Ids,
-    known: &[bool],
-) -> Result<Vec<bool>, Memory>
-    requires { length known.now ≡ length ids.now }
-    ensures { IfOk result (λ after. after.items ≡ map (λ s. names_pass (known_by ids.now known.now) s.sort) sorts.now) }
+    visits: &mut [Visit],
+    root: u32,
+) -> Result<bool, Memory>
+    requires ids { ids.now ≡ ids_of sorts.now }
+    requires visits { visits.old ≡ replicate (length sorts.now) Fresh }
+    requires within { root < length sorts.now }
+    ensures { IfOk result (λ known. known ≡ is_known sorts.now (term_at sorts.now root)) }
 {
-    let mut after = Vec::with_capacity(alloc, sorts.len())?;
-    for sort in sorts {
-        after.push(names_known(&sort.sort, ids, known))?;
-    }
-    Ok(after)
-}
-
-/// What is known of each named sort after enough steps.
-fn all_known(alloc: Global, sorts: &[NamedSort], ids: &Ids) -> Result<Vec<bool>, Memory>
-    requires { ids.now ≡ ids_of sorts.now }
-    ensures known { IfOk result (λ known. AreKnown sorts.now (enough sorts.now) known.items) }
-    ensures long { IfOk result (λ known. length known.items ≡ length sorts.now) }
-{
-    let mut known = all_true(alloc, sorts.len())?;
-    for _step in 0..sorts.len() {
-        let after = known_after(alloc, sorts, ids, known.as_slice())?;
-        if after.as_slice() == known.as_slice() {
-            return Ok(known);
+    let mut waiting = Vec::new(alloc);
+    waiting.push(Turn::Enter(root))?;
+    while let Some(turn) = waiting.pop() {
+        if !look_at(sorts, ids, visits, &mut waiting, turn)? {
+            return Ok(false);
         }
-        known = after;
     }
-    let last = known_after(alloc, sorts, ids, known.as_slice())?;
-    Ok(last)
+    Ok(true)
 }
 
-/// So many truths.
-fn all_true(alloc: Global, count: usize) -> Result<Vec<bool>, Memory>
-    ensures { IfOk result (λ truths. truths.items ≡ replicate count true) }
-{
-    let truths = vec![in alloc; true; count]?;
-    Ok(truths)
-}
-
-/// Whether every name is declared that a named sort leads to.
+/// Whether every name is declared that a named sort leads to. It looks at each named sort once.
 pub(crate) fn leads_to_known(
     alloc: Global,
     sorts: &[NamedSort],
@@ -91,6 +109,7 @@ pub(crate) fn leads_to_known(
     requires within { at < length sorts.now }
     ensures { IfOk result (λ known. known ≡ is_known sorts.now (term_at sorts.now at)) }
 {
-    let known = all_known(alloc, sorts, ids)?;
-    Ok(names_known(&sorts[at as usize].sort, ids, known.as_slice()))
+    let mut visits = no_visits(alloc, sorts.len())?;
+    let known = search_from(alloc, sorts, ids, visits.as_mut_slice(), at)?;
+    Ok(known)
 }

@@ -37,7 +37,7 @@ impl Domains {
         requires { 0 < length (constants_at self.now.constants at) }
         ensures { result ≡ sort_at self.now.sorts at }
     {
-        match &self.sorts.as_slice()[at as usize] {
+        match self.sorts.get(at) {
             Some(sort) => copy_enumeration(sort, at),
             None => Sort::Listed(at),
         }
@@ -54,6 +54,26 @@ impl Domains {
                 index: spot.place,
             }),
             None => self.element(id),
+        }
+    }
+
+    /// The position of the named sort of this id, or `None` where no named sort has it. It takes no
+    /// memory.
+    pub fn named_sort(&self, id: &[u8]) -> Option<u32>
+        ensures { result ≡ place_of self.now.ids id.now }
+    {
+        self.ids.find(id)
+    }
+
+    /// The sort that the named sort at this position stands for, its names followed. It takes no
+    /// memory.
+    pub fn sort(&self, at: u32) -> &Sort
+        requires { at < length self.now.ids }
+        ensures { result.now ≡ sort_at self.now.sorts at }
+    {
+        match self.sorts.get(at) {
+            Some(sort) => sort,
+            None => unreachable!(),
         }
     }
 

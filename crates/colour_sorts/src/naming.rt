@@ -3,8 +3,8 @@ ghost use Rattle.colour_sorts.specs.Colours.{colours, constants_at, size, span_l
 
 use crate::domains::Domains;
 use crate::sorts::{Colour, Sort};
-use crate::written::Span;
 use name_tables::Name;
+use net_model::Span;
 use sqlite_items::Items;
 use std::alloc::Global;
 use wide_sums::Memory;

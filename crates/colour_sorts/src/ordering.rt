@@ -1,11 +1,14 @@
-ghost use Rattle.std.specs.Prelude.{◌≡◌, ◌+◌, ◌<◌, ◌≤◌, All, length, map, replicate, IfOk, OnOk};
-ghost use Rattle.colour_sorts.specs.Limits.{all_together};
-ghost use Rattle.colour_sorts.specs.Naming.{ids_of};
-ghost use Rattle.colour_sorts.specs.Searching.{name_count, steps_of_all};
+ghost use Rattle.std.specs.Prelude.{◌≡◌, ℕ, ◌+◌, ◌<◌, ◌≤◌, ◌++◌, ◌∷◌, [], List, flat_map, length, map, replicate, IfOk, OnOk};
+ghost use Rattle.net_model.specs.Ids.{ids_of};
+ghost use Rattle.colour_sorts.specs.Naming.{at_place, place_of};
+ghost use Rattle.colour_sorts.specs.Searching.{AreEntries, IsOrder, IsSearch, place_in_turn, places_named, steps_of_all};
+ghost use Rattle.colour_sorts.specs.declared.ordering.Turn.{Turn as Step};
+ghost use Rattle.colour_sorts.specs.declared.ordering.Turn.TheVariants.{Enter as enters, Leave as leaves};
 ghost use Rattle.colour_sorts.specs.declared.ordering.Visit.TheVariants.{Fresh};
+ghost use Rattle.net_model.specs.declared.sorts.NamedSort.{NamedSort as Declaration};
 
-use crate::written::{NamedSort, SortTerm};
 use name_tables::Ids;
+use net_model::{NamedSort, SortTerm};
 use std::alloc::Global;
 use wide_sums::Memory;
 
@@ -20,154 +23,148 @@ pub(crate) enum Visit {
     Placed,
 }
 
-/// Puts the position of the named sort of this id behind `waiting`, unless it was entered.
-fn push_name(name: &[u8], ids: &Ids, visits: &[Visit], waiting: &mut Vec<u32>) -> Result<(), Memory>
-    requires visits { length visits.now ≡ length ids.now }
-    requires within { All (λ at. at < length ids.now) waiting.old.items }
-    ensures within { OnOk result (All (λ at. at < length ids.now) waiting.new.items) }
-    ensures few { OnOk result (length waiting.new.items ≤ length waiting.old.items + 1) }
+/// What the search does next, with the named sort at this position.
+#[derive(Clone, Copy, Debug, PartialEq, Eq)]
+pub(crate) enum Turn {
+    /// The sort is entered, unless it was.
+    Enter(u32),
+    /// The sort goes into the order.
+    Leave(u32),
+}
+
+impl Turn {
+    /// The position of the named sort.
+    pub(crate) fn place(self) -> u32
+        ensures { result ≡ place_in_turn self }
+    {
+        match self {
+            Turn::Enter(at) => at,
+            Turn::Leave(at) => at,
+        }
+    }
+}
+
+/// Lets the named sort of this id wait behind `waiting`.
+fn push_name(name: &[u8], ids: &Ids, waiting: &mut Vec<Turn>) -> Result<(), Memory>
+    ensures { OnOk result (waiting.new.items ≡ waiting.old.items ++ map enters (at_place [] (λ at. at ∷ []) (place_of ids.now name.now))) }
 {
     if let Some(at) = ids.find(name) {
-        if let Visit::Fresh = visits[at as usize] {
-            waiting.push(at)?;
-        }
+        waiting.push(Turn::Enter(at))?;
     }
     Ok(())
 }
 
-/// Puts the positions of the named sorts that a term names behind `waiting`, but for those that were
-/// entered.
+/// Lets the named sorts that a term names wait behind `waiting`.
 #[cycle(searching)]
-fn push_names(
-    term: &SortTerm,
-    ids: &Ids,
-    visits: &[Visit],
-    waiting: &mut Vec<u32>,
-) -> Result<(), Memory>
-    requires visits { length visits.now ≡ length ids.now }
-    requires within { All (λ at. at < length ids.now) waiting.old.items }
-    ensures within { OnOk result (All (λ at. at < length ids.now) waiting.new.items) }
-    ensures few { OnOk result (length waiting.new.items ≤ length waiting.old.items + name_count term.now) }
+pub(crate) fn push_names(term: &SortTerm, ids: &Ids, waiting: &mut Vec<Turn>) -> Result<(), Memory>
+    ensures { OnOk result (waiting.new.items ≡ waiting.old.items ++ map enters (places_named ids.now term.now)) }
 {
     match term {
-        SortTerm::Named(name) => push_name(name.bytes(), ids, visits, waiting)?,
-        SortTerm::Product(parts) => push_parts(parts.as_slice(), ids, visits, waiting)?,
-        _ => {}
+        SortTerm::Dot => Ok(()),
+        SortTerm::Named(name) => push_name(name.bytes(), ids, waiting),
+        SortTerm::Product(parts) => push_parts(parts.as_slice(), ids, waiting),
+        SortTerm::Range(_) => Ok(()),
+        SortTerm::Listed(_) => Ok(()),
+        SortTerm::Cyclic(_) => Ok(()),
     }
-    Ok(())
 }
 
 #[cycle(searching)]
-fn push_parts(
-    parts: &[SortTerm],
-    ids: &Ids,
-    visits: &[Visit],
-    waiting: &mut Vec<u32>,
-) -> Result<(), Memory>
-    requires visits { length visits.now ≡ length ids.now }
-    requires within { All (λ at. at < length ids.now) waiting.old.items }
-    ensures within { OnOk result (All (λ at. at < length ids.now) waiting.new.items) }
-    ensures few { OnOk result (length waiting.new.items ≤ length waiting.old.items + all_together (map name_count parts.now)) }
+fn push_parts(parts: &[SortTerm], ids: &Ids, waiting: &mut Vec<Turn>) -> Result<(), Memory>
+    ensures { OnOk result (waiting.new.items ≡ waiting.old.items ++ map enters (flat_map (places_named ids.now) parts.now)) }
 {
     for part in parts {
-        push_names(part, ids, visits, waiting)?;
+        push_names(part, ids, waiting)?;
     }
     Ok(())
 }
 
-/// One step of the search, at the last sort that waits, which was taken from them: it is entered and
-/// what it names waits, or it goes behind `order`.
-fn step(
+/// Enters a named sort, unless it was: then what it names waits, and it waits itself before them.
+fn enter(
     sorts: &[NamedSort],
     ids: &Ids,
     visits: &mut [Visit],
-    waiting: &mut Vec<u32>,
-    order: &mut Vec<u32>,
-    top: u32,
+    waiting: &mut Vec<Turn>,
+    at: u32,
 ) -> Result<(), Memory>
     requires ids { ids.now ≡ ids_of sorts.now }
-    requires visits { length visits.old ≡ length ids.now }
-    requires waiting { All (λ at. at < length ids.now) waiting.old.items }
-    requires order { All (λ at. at < length ids.now) order.old.items }
-    requires top { top < length ids.now }
-    ensures waiting { OnOk result (All (λ at. at < length ids.now) waiting.new.items) }
-    ensures order { OnOk result (All (λ at. at < length ids.now) order.new.items) }
-    ensures less { OnOk result (steps_of_all sorts.now visits.new + length waiting.new.items ≤ steps_of_all sorts.now visits.old + length waiting.old.items) }
+    requires long { length visits.old ≡ length sorts.now }
+    requires within { at < length sorts.now }
+    ensures search { (order : List ℕ) → IsSearch sorts.now visits.old (waiting.old.items ++ enters at ∷ []) order → OnOk result (IsSearch sorts.now visits.new waiting.new.items order) }
+    ensures less { OnOk result (steps_of_all ids.now sorts.now visits.new + length waiting.new.items ≤ steps_of_all ids.now sorts.now visits.old + length waiting.old.items) }
 {
-    let visit = visits[top as usize];
+    let visit = visits[at as usize];
     match visit {
         Visit::Fresh => {
-            visits[top as usize] = Visit::Open;
-            waiting.push(top)?;
-            push_names(&sorts[top as usize].sort, ids, visits, waiting)?;
+            visits[at as usize] = Visit::Open;
+            waiting.push(Turn::Leave(at))?;
+            push_names(&sorts[at as usize].sort, ids, waiting)?;
+            Ok(())
         }
-        Visit::Open => {
-            visits[top as usize] = Visit::Placed;
-            order.push(top)?;
-        }
-        Visit::Placed => {}
+        _ => Ok(()),
     }
+}
+
+/// Puts a named sort behind the order, in which all are that it names, unless they lead into a
+/// circle.
+fn leave(visits: &mut [Visit], order: &mut Vec<u32>, at: u32) -> Result<(), Memory>
+    requires within { at < length visits.old }
+    ensures search { (sorts : List Declaration) (waiting : List Step) → IsSearch sorts visits.old (waiting ++ leaves at ∷ []) order.old.items → OnOk result (IsSearch sorts visits.new waiting order.new.items) }
+    ensures less { (ids : List (List ℕ)) (sorts : List Declaration) → length visits.old ≡ length sorts → OnOk result (steps_of_all ids sorts visits.new ≤ steps_of_all ids sorts visits.old) }
+{
+    visits[at as usize] = Visit::Placed;
+    order.push(at)?;
     Ok(())
 }
 
-/// Follows the names from a named sort. What it leads to goes behind `order`, each sort behind those
-/// that it names, unless names lead round in a circle.
-fn follow(
-    alloc: Global,
+/// Goes on until nothing waits.
+fn search(
     sorts: &[NamedSort],
     ids: &Ids,
     visits: &mut [Visit],
+    waiting: &mut Vec<Turn>,
     order: &mut Vec<u32>,
-    root: u32,
 ) -> Result<(), Memory>
     requires ids { ids.now ≡ ids_of sorts.now }
-    requires visits { length visits.old ≡ length ids.now }
-    requires order { All (λ at. at < length ids.now) order.old.items }
-    requires root { root < length ids.now }
-    ensures { OnOk result (All (λ at. at < length ids.now) order.new.items) }
+    requires search { IsSearch sorts.now visits.old waiting.old.items order.old.items }
+    ensures { OnOk result (IsSearch sorts.now visits.new [] order.new.items) }
 {
-    let mut waiting = Vec::new(alloc);
-    waiting.push(root)?;
-    while let Some(top) = waiting.pop() {
-        step(sorts, ids, visits, &mut waiting, order, top)?;
+    while let Some(turn) = waiting.pop() {
+        match turn {
+            Turn::Enter(at) => enter(sorts, ids, visits, waiting, at)?,
+            Turn::Leave(at) => leave(visits, order, at)?,
+        }
     }
     Ok(())
 }
 
-fn no_visits(alloc: Global, count: usize) -> Result<Vec<Visit>, Memory>
+pub(crate) fn no_visits(alloc: Global, count: usize) -> Result<Vec<Visit>, Memory>
     ensures { IfOk result (λ visits. visits.items ≡ replicate count Fresh) }
 {
     let visits = vec![in alloc; Visit::Fresh; count]?;
     Ok(visits)
 }
 
-/// Follows the names from each named sort.
-fn follow_all(
-    alloc: Global,
-    sorts: &[NamedSort],
-    ids: &Ids,
-    visits: &mut [Visit],
-    order: &mut Vec<u32>,
-) -> Result<(), Memory>
-    requires ids { ids.now ≡ ids_of sorts.now }
-    requires visits { length visits.old ≡ length ids.now }
-    requires order { All (λ at. at < length ids.now) order.old.items }
-    ensures { OnOk result (All (λ at. at < length ids.now) order.new.items) }
+/// So many named sorts that wait to be entered.
+fn all_entries(alloc: Global, count: u32) -> Result<Vec<Turn>, Memory>
+    ensures { IfOk result (λ waiting. AreEntries count waiting.items) }
 {
-    for root in 0..ids.count() {
-        follow(alloc, sorts, ids, visits, order, root)?;
+    let mut waiting = Vec::with_capacity(alloc, count as usize)?;
+    for at in 0..count {
+        waiting.push(Turn::Enter(at))?;
     }
-    Ok(())
+    Ok(waiting)
 }
 
-/// The positions of the named sorts, each behind those that it names, unless names lead round in a
+/// The positions of the named sorts, each behind those that it names, unless they lead into a
 /// circle. Each name is looked up once.
 pub(crate) fn order_of(alloc: Global, sorts: &[NamedSort], ids: &Ids) -> Result<Vec<u32>, Memory>
     requires { ids.now ≡ ids_of sorts.now }
-    ensures { IfOk result (λ order. All (λ at. at < length ids.now) order.items) }
+    ensures { IfOk result (λ order. IsOrder sorts.now order.items) }
 {
     let mut visits = no_visits(alloc, sorts.len())?;
-    let mut order = Vec::new(alloc);
-    follow_all(alloc, sorts, ids, visits.as_mut_slice(), &mut order)?;
+    let mut waiting = all_entries(alloc, ids.count())?;
+    let mut order = Vec::with_capacity(alloc, sorts.len())?;
+    search(sorts, ids, visits.as_mut_slice(), &mut waiting, &mut order)?;
     Ok(order)
 }

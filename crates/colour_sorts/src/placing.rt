@@ -5,7 +5,7 @@ ghost use Rattle.colour_sorts.specs.declared.sorts.Colour.TheVariants as variant
 
 use crate::domains::Domains;
 use crate::sorts::{Colour, Sort};
-use crate::written::Span;
+use net_model::Span;
 
 /// How many steps a number is above the first one of a range.
 fn steps_between(first: i64, number: i64) -> u32

@@ -2,15 +2,15 @@ ghost use Rattle.std.specs.Prelude.{◌≡◌, List};
 ghost use Rattle.colour_sorts.specs.Calls.{IsResolved};
 ghost use Rattle.colour_sorts.specs.Domain.{StandsFor};
 ghost use Rattle.colour_sorts.specs.Naming.{broken_rule};
-ghost use Rattle.colour_sorts.specs.declared.written.NamedSort.{NamedSort as Declaration};
-ghost use Rattle.colour_sorts.specs.declared.written.Partition.{Partition as Division};
+ghost use Rattle.net_model.specs.declared.sorts.NamedSort.{NamedSort as Declaration};
+ghost use Rattle.net_model.specs.declared.sorts.Partition.{Partition as Division};
 
 use crate::compiling::compile;
 use crate::domains::Domains;
 use crate::judging::facts_of;
 use crate::rules::{ResolveFault, Rule};
 use crate::sorts::Sort;
-use crate::written::SortTerm;
+use net_model::SortTerm;
 use std::alloc::Global;
 
 impl Domains {
@@ -39,7 +39,7 @@ impl Domains {
         if let Some(rule) = self.broken(sort) {
             return Err(ResolveFault::Bad { rule });
         }
-        match compile(alloc, sort, 0, &self.ids, self.sorts.as_slice()) {
+        match compile(alloc, sort, 0, &self.ids, &self.sorts) {
             Ok(Some(resolved)) => Ok(resolved),
             Ok(None) => unreachable!(),
             Err(_) => Err(ResolveFault::Memory),

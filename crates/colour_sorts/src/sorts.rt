@@ -1,5 +1,5 @@
-use crate::written::Span;
 use name_tables::Name;
+use net_model::Span;
 use sqlite_items::Items;
 
 /// A sort with its names followed. Two sorts are the same where these values are equal.

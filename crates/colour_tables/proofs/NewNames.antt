@@ -8,7 +8,7 @@ use Rattle.std.specs.List.{IsDistinct}
 use Rattle.std.specs.Str.{bytes_eq}
 use Rattle.name_tables.proofs.Places.{position_some}
 use Rattle.name_tables.specs.Numbering.{number_in}
-use Rattle.colour_sorts.specs.Groups.{names_in}
+use Rattle.net_model.specs.Ids.{names_in}
 use Rattle.colour_sorts.proofs.Grouped.{joined-more, not-true}
 
 -- distinct names, and a new one behind them

@@ -5,9 +5,9 @@ use Rattle.std.specs.Prelude.{IfOk, Result, Ok, Err}
 use Rattle.std.specs.Str.{bytes_eq}
 use Rattle.colour_sorts.specs.declared.rules.ResolveFault.{ResolveFault}
 use Rattle.colour_sorts.specs.declared.sorts.Sort.{Sort}
-use Rattle.colour_sorts.specs.declared.written.NamedSort.{NamedSort}
-use Rattle.colour_sorts.specs.declared.written.Partition.{Partition}
-use Rattle.colour_sorts.specs.declared.written.SortTerm.{SortTerm}
+use Rattle.net_model.specs.declared.sorts.NamedSort.{NamedSort}
+use Rattle.net_model.specs.declared.sorts.Partition.{Partition}
+use Rattle.net_model.specs.declared.sorts.SortTerm.{SortTerm}
 use Rattle.colour_sorts.specs.Calls.{IsResolved, blocks_at, sort_at}
 use Rattle.colour_sorts.specs.Colours.{size}
 use Rattle.colour_sorts.specs.Domain.{Domain, StandsFor}

@@ -1,9 +1,7 @@
 ghost use Rattle.std.specs.Prelude.{◌≡◌, ◌++◌, ◌<◌, ◌-◌, ◌^◌, true, length, map, IfOk, IfSome, OnOk};
 ghost use Rattle.std.specs.List.{IsDistinct};
 ghost use Rattle.std.specs.Str.{bytes_eq};
-ghost use Rattle.colour_sorts.specs.Domain.{AreCounted, AreDistinct, element_ids};
-ghost use Rattle.colour_sorts.specs.Groups.{names_in};
-ghost use Rattle.colour_sorts.specs.Naming.{constants_in, constants_of, ids_of};
+ghost use Rattle.net_model.specs.Ids.{AreCounted, AreDistinct, constants_in, constants_of, element_ids, ids_of, names_in};
 
 use colour_sorts::{Block, NamedSort, Partition, SortTerm};
 use name_tables::{Added, Ids, Name};

@@ -1,7 +1,8 @@
 ghost use Rattle.std.specs.Prelude.{◌<◌, ◌≤◌, ◌^◌, IfOk, List, length};
 ghost use Rattle.colour_sorts.specs.Calls.{blocks_at, sort_at};
 ghost use Rattle.colour_sorts.specs.Colours.{size};
-ghost use Rattle.colour_sorts.specs.Domain.{AreDistinct, StandsFor};
+ghost use Rattle.net_model.specs.Ids.{AreDistinct};
+ghost use Rattle.colour_sorts.specs.Domain.{StandsFor};
 
 use crate::apart::are_apart;
 use crate::written::{partitions, sorts};
@@ -52,8 +53,8 @@ impl Model for Built {
     ghost use Rattle.std.specs.Coded.{codes};
     ghost use Rattle.colour_sorts.specs.Domain.{Domain, StandsFor};
     ghost use Rattle.colour_sorts.specs.contracts.sorts.Sort as s;
-    ghost use Rattle.colour_sorts.specs.declared.written.NamedSort.{NamedSort};
-    ghost use Rattle.colour_sorts.specs.declared.written.Partition.{Partition};
+    ghost use Rattle.net_model.specs.declared.sorts.NamedSort.{NamedSort};
+    ghost use Rattle.net_model.specs.declared.sorts.Partition.{Partition};
 
     ghost Value = { Domain };
 

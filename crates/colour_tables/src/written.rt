@@ -33,30 +33,9 @@ pub fn spanned(text: &[u8]) -> Option<(i64, Span)> {
     Some((read_number(value, true)?, span(range)?))
 }
 
-/// The word by which rows name a rule of sorts, partitions, terms and guards.
+/// The word by which rows name a rule.
 pub fn word_for(rule: Rule) -> &'static [u8] {
-    match rule {
-        Rule::UnknownSort => b"unknown-sort",
-        Rule::SortCircle => b"sort-circle",
-        Rule::RangeUpsideDown => b"range-upside-down",
-        Rule::EmptySort => b"empty-sort",
-        Rule::EmptyProduct => b"empty-product",
-        Rule::DomainLimit => b"domain-limit",
-        Rule::PartitionSort => b"partition-sort",
-        Rule::PartitionMember => b"partition-member",
-        Rule::PartitionCover => b"partition-cover",
-        Rule::VariableInMarking => b"variable-in-marking",
-        Rule::UnknownVariable => b"unknown-variable",
-        Rule::UnknownOperator => b"unknown-operator",
-        Rule::RangeConstant => b"range-constant",
-        Rule::NotCyclic => b"not-cyclic",
-        Rule::NotAColour => b"not-a-colour",
-        Rule::NotAMultiset => b"not-a-multiset",
-        Rule::SortsDiffer => b"sorts-differ",
-        Rule::UnknownPartition => b"unknown-partition",
-        Rule::NoOrder => b"no-order",
-        _ => b"another-rule",
-    }
+    rule.word()
 }
 
 fn names(alloc: Global, text: &[u8]) -> Result<Items<Name>, Memory> {

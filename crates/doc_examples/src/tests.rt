@@ -14,7 +14,7 @@ fn read_in(alloc: Global, text: &[u8], size: usize) -> Result<Element, DocFault>
         Err(_) => return Err(DocFault::Memory),
     };
     for piece in text.chunks(size.max(1)) {
-        if reader.count() > 1_000_000 || piece.len() > 1_000_000 {
+        if reader.count() > 1_000_000_000 || piece.len() > 1_000_000_000 {
             return Err(DocFault::Memory);
         }
         match reader.feed(piece) {
@@ -334,5 +334,82 @@ fn a_tree_is_read_from_pieces_and_written(rt: HostRuntime) -> Result<(), Fail> {
         None => false,
     };
     assert_eq!(rt; right, true);
+    Ok(())
+}
+
+/// A text, so many times.
+fn put_times(text: &mut Vec<u8>, part: &[u8], count: usize) -> Result<(), Fail> {
+    for _ in 0..count {
+        text.extend_from_slice(part)?;
+    }
+    Ok(())
+}
+
+/// Six digits of a number, the last one first.
+fn put_digits(text: &mut Vec<u8>, number: u32) -> Result<(), Fail> {
+    let mut rest = number;
+    for _ in 0..6 {
+        text.push(b'0' + (rest % 10) as u8)?;
+        rest /= 10;
+    }
+    Ok(())
+}
+
+/// A root between so much white.
+fn within_white(alloc: Global, count: usize) -> Result<Vec<u8>, Fail> {
+    let mut text = Vec::new(alloc);
+    put_times(&mut text, b" ", count)?;
+    text.extend_from_slice(b"<a/>")?;
+    put_times(&mut text, b"\n", count)?;
+    Ok(text)
+}
+
+#[test]
+fn much_white_is_read_outside_the_root(rt: HostRuntime) -> Result<(), Fail> {
+    let text = within_white(rt.alloc(), 1_048_576)?;
+    assert_eq!(rt; fault_in(rt.alloc(), &text, 65_536), None);
+    assert_eq!(rt; fault_in(rt.alloc(), &text, 1_000_000_000), None);
+    Ok(())
+}
+
+/// An element with attributes of so many names.
+fn with_attributes(alloc: Global, count: u32) -> Result<Vec<u8>, Fail> {
+    let mut text = Vec::from_slice(alloc, b"<a")?;
+    for number in 0..count {
+        text.extend_from_slice(b" b")?;
+        put_digits(&mut text, number)?;
+        text.extend_from_slice(b"=''")?;
+    }
+    text.extend_from_slice(b"/>")?;
+    Ok(text)
+}
+
+#[test]
+fn an_element_has_many_attributes(rt: HostRuntime) -> Result<(), Fail> {
+    let text = with_attributes(rt.alloc(), 200_000)?;
+    let count = match read_in(rt.alloc(), &text, 65_536) {
+        Ok(element) => element.attributes.len(),
+        Err(_) => 0,
+    };
+    assert_eq!(rt; count, 200_000);
+    Ok(())
+}
+
+/// An element with so many children, which have an attribute and a text.
+fn with_children(alloc: Global, count: usize) -> Result<Vec<u8>, Fail> {
+    let mut text = Vec::from_slice(alloc, b"<a>")?;
+    put_times(&mut text, b"<b c='1'>x</b>", count)?;
+    text.extend_from_slice(b"</a>")?;
+    Ok(text)
+}
+
+#[test]
+fn an_element_has_many_children(rt: HostRuntime) -> Result<(), Fail> {
+    let text = with_children(rt.alloc(), 70_000)?;
+    let count = match read_in(rt.alloc(), &text, 1_000_000_000) {
+        Ok(element) => element.children.len(),
+        Err(_) => 0,
+    };
+    assert_eq!(rt; count, 70_000);
     Ok(())
 }

@@ -103,10 +103,10 @@ blank_empty t os r at = refl
 key_white : (t : Tag) (k : List ℕ) (os : List Open) (r : Option Element) → is_fresh k t.attributes ≡ true → AtWhite (state (Key t k) Whole os r) (state (AfterKey t k) Whole os r)
 key_white t k os r fresh at c h = rw (white_not_lead c h, white_not_name_byte c h, fresh, h) refl
 
-after_key_white : (t : Tag) (k : List ℕ) (os : List Open) (r : Option Element) → AtWhite (state (AfterKey t k) Whole os r) (state (AfterKey t k) Whole os r)
+pub after_key_white : (t : Tag) (k : List ℕ) (os : List Open) (r : Option Element) → AtWhite (state (AfterKey t k) Whole os r) (state (AfterKey t k) Whole os r)
 after_key_white t k os r at c h = rw (white_not_lead c h, h) refl
 
-equals_white : (t : Tag) (k : List ℕ) (os : List Open) (r : Option Element) → AtWhite (state (Equals t k) Whole os r) (state (Equals t k) Whole os r)
+pub equals_white : (t : Tag) (k : List ℕ) (os : List Open) (r : Option Element) → AtWhite (state (Equals t k) Whole os r) (state (Equals t k) Whole os r)
 equals_white t k os r at c h = rw (white_not_lead c h, h) refl
 
 pub key_equals : (t : Tag) (k : List ℕ) (os : List Open) (r : Option Element) (at : ℕ) → is_fresh k t.attributes ≡ true → next (state (Key t k) Whole os r) at 61 ≡ state (Equals t k) Whole os r

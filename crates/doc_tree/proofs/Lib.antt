@@ -14,3 +14,4 @@ pub mod Written
 pub mod Fresh
 pub mod Instances
 pub mod TakenTokens
+pub mod OneAnswer

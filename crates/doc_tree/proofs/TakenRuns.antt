@@ -7,15 +7,16 @@ use Rattle.doc_tree.specs.declared.places.Dashes.TheVariants.{Neither}
 use Rattle.doc_tree.specs.declared.places.Tag.{Tag}
 use Rattle.doc_tree.specs.declared.places.Open.{Open}
 use Rattle.doc_tree.specs.declared.places.Place.{Place}
-use Rattle.doc_tree.specs.declared.places.Place.TheVariants.{Between, TagName, Key, Value, Close, Target, Comment, Instruction}
+use Rattle.doc_tree.specs.declared.places.Place.TheVariants.{Between, TagName, Key, Value, Close, CloseWhite, Target, Comment, Instruction}
 use Rattle.doc_tree.specs.declared.places.Part.TheVariants.{Whole}
-use Rattle.doc_tree.specs.Characters.{is_text, is_value, is_name_byte, is_comment_byte, is_instruction_byte}
+use Rattle.doc_tree.specs.Characters.{is_white, is_text, is_value, is_name_byte, is_comment_byte, is_instruction_byte}
 use Rattle.doc_tree.specs.Machine.{state}
 use Rattle.doc_tree.specs.Machine.{open_at, with_text}
 use Rattle.doc_tree.specs.Fed.{HasReadBy, fault_of}
 use Rattle.doc_tree.proofs.Classes.{ascii_step}
 use Rattle.doc_tree.proofs.Answering.{byte_answer, within_limit}
-use Rattle.doc_tree.proofs.Whole.{byte_of, close_step}
+use Rattle.doc_tree.proofs.Forward.{AtWhite}
+use Rattle.doc_tree.proofs.Whole.{byte_of, close_step, close_white_more, outer_white}
 use Rattle.doc_tree.specs.Characters.{all_bytes}
 
 pub all_more : (ok : ℕ → Bool) (s : List ℕ) (c : ℕ) → all_bytes ok s ≡ true → ok c ≡ true → all_bytes ok (s ++ c ∷ []) ≡ true
@@ -172,13 +173,41 @@ stand p os r count n b bytes none h = subst (λ m. HasReadBy None (state p Whole
 pub moved : (p q : Place) (os ps : List Open) (r : Option Element) (count : ℕ) (b : List ℕ) → p ≡ q → os ≡ ps → HasReadBy None (state p Whole os r) count b → HasReadBy None (state q Whole ps r) count b
 moved p q os ps r count b e1 e2 h = subst (λ x. HasReadBy None (state q Whole x r) count b) e2 (subst (λ x. HasReadBy None (state x Whole os r) count b) e1 h)
 
-pub text_taken : (p : Place) (old new : List Open) (s : List ℕ) (added : Bool) → MatchBool added ((o : Open) × (os : List Open) × (old ≡ o ∷ os) × (new ≡ with_text o s ∷ os)) ((old ≡ []) × (new ≡ []))
-    → p ≡ Between → all_bytes is_text s ≡ true → added ≡ true → (r : Option Element) (count : ℕ) (b : List ℕ) → HasReadBy None (state p Whole old r) count b → HasReadBy None (state p Whole new r) (count + length s) (b ++ s)
-text_taken p old new s true (o, os, e2, e3) e1 all e r count b h =
+pub text_taken : (p : Place) (old new : List Open) (s : List ℕ) (empty added : Bool) → MatchBool empty (old ≡ []) ((o : Open) × (os : List Open) × (old ≡ o ∷ os)) → empty ≡ false
+    → MatchBool added ((o : Open) × (os : List Open) × (old ≡ o ∷ os) × (new ≡ with_text o s ∷ os)) ((old ≡ []) × (new ≡ []))
+    → p ≡ Between → all_bytes is_text s ≡ true → (r : Option Element) (count : ℕ) (b : List ℕ) → HasReadBy None (state p Whole old r) count b → HasReadBy None (state p Whole new r) (count + length s) (b ++ s)
+text_taken p old new s empty true some e (o, os, e2, e3) e1 all r count b h =
     moved Between p (with_text o s ∷ os) new r (count + length s) (b ++ s) (sym e1) (sym e3) (text_run s o os r count b all (moved p Between old (o ∷ os) r count b e1 e2 h))
-text_taken p old new s false none e1 all e r count b h = absurd (true≢false (sym e))
+text_taken p old new s false false (o, os, e3) e (e2, _) e1 all r count b h = absurd cc
+text_taken p old new s true false some e none e1 all r count b h = absurd (true≢false e)
 
-pub text_not_taken : (p : Place) (old new : List Open) (s : List ℕ) (added : Bool) → MatchBool added ((o : Open) × (os : List Open) × (old ≡ o ∷ os) × (new ≡ with_text o s ∷ os)) ((old ≡ []) × (new ≡ []))
-    → added ≡ false → (r : Option Element) (count : ℕ) (b : List ℕ) → HasReadBy None (state p Whole old r) count b → HasReadBy None (state p Whole new r) (count + 0) (b ++ [])
-text_not_taken p old new s false (e2, e3) e r count b h = no_more p new r count b (moved p p old new r count b refl (e2 ∙ sym e3) h)
-text_not_taken p old new s true some e r count b h = absurd (true≢false e)
+-- white where it changes nothing
+white_run : (s : List ℕ) (p : Place) (os : List Open) (r : Option Element) (count : ℕ) (b : List ℕ) → AtWhite (state p Whole os r) (state p Whole os r) → ((at : ℕ) → fault_of p Whole os at ≡ None)
+    → all_bytes is_white s ≡ true → HasReadBy None (state p Whole os r) count b → HasReadBy None (state p Whole os r) (count + length s) (b ++ s)
+white_run [] p os r count b stays quiet all h = none_more b count h
+white_run (c ∷ s) p os r count b stays quiet all h =
+    let (is, rest) = all_first is_white c s all in
+    further b s c count (white_run s p os r (suc count) (b ++ c ∷ []) stays quiet rest
+    (subst (λ f. HasReadBy f (state p Whole os r) (suc count) (b ++ c ∷ [])) (quiet count)
+    (byte_answer b c count (state p Whole os r) p Whole os r h (sym (stays count c is)))))
+
+pub white_taken : (p q : Place) (os : List Open) (r : Option Element) (count n : ℕ) (b bytes : List ℕ) → p ≡ q → AtWhite (state q Whole os r) (state q Whole os r) → ((at : ℕ) → fault_of q Whole os at ≡ None)
+    → n ≤ length bytes → all_bytes is_white (take n bytes) ≡ true → HasReadBy None (state p Whole os r) count b → HasReadBy None (state p Whole os r) (count + n) (b ++ take n bytes)
+white_taken p q os r count n b bytes e stays quiet within all h =
+    many p os r count n b bytes within
+    (moved q p os os r (count + length (take n bytes)) (b ++ take n bytes) (sym e) refl (white_run (take n bytes) q os r count b stays quiet all (moved p q os os r count b e refl h)))
+
+pub outside_taken : (p : Place) (old : List Open) (empty : Bool) (n : ℕ) (bytes : List ℕ) → MatchBool empty (old ≡ []) ((o : Open) × (os : List Open) × (old ≡ o ∷ os)) → empty ≡ true → p ≡ Between
+    → n ≤ length bytes → all_bytes is_white (take n bytes) ≡ true → (r : Option Element) (count : ℕ) (b : List ℕ) → HasReadBy None (state p Whole old r) count b → HasReadBy None (state p Whole old r) (count + n) (b ++ take n bytes)
+outside_taken p old true n bytes none e1 e within all r count b h =
+    moved p p [] old r (count + n) (b ++ take n bytes) refl (sym none)
+    (white_taken p Between [] r count n b bytes e (outer_white r) (λ at. refl) within all (moved p p old [] r count b refl none h))
+outside_taken p old false n bytes some e1 e within all r count b h = absurd (true≢false (sym e1))
+
+pub end_white_taken : (os : List Open) (empty : Bool) (n : ℕ) (bytes : List ℕ) → MatchBool empty (os ≡ []) ((o : Open) × (rest : List Open) × (os ≡ o ∷ rest)) → empty ≡ false
+    → n ≤ length bytes → all_bytes is_white (take n bytes) ≡ true → (r : Option Element) (count : ℕ) (b : List ℕ) → HasReadBy None (state CloseWhite Whole os r) count b
+    → HasReadBy None (state CloseWhite Whole os r) (count + n) (b ++ take n bytes)
+end_white_taken os false n bytes (o, rest, is) e within all r count b h =
+    moved CloseWhite CloseWhite (o ∷ rest) os r (count + n) (b ++ take n bytes) refl (sym is)
+    (white_taken CloseWhite CloseWhite (o ∷ rest) r count n b bytes refl (close_white_more o rest r) (λ at. refl) within all (moved CloseWhite CloseWhite os (o ∷ rest) r count b refl is h))
+end_white_taken os true n bytes none e within all r count b h = absurd (true≢false e)

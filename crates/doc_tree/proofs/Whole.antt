@@ -45,7 +45,7 @@ close_white o os r at c h =
     let upper : nat_lt (length o.name) (length o.name) ≡ false = grind (arith, nat_tests) in
     rw (white_not_lead c h, upper, h) refl
 
-close_white_more : (o : Open) (os : List Open) (r : Option Element) → AtWhite (state CloseWhite Whole (o ∷ os) r) (state CloseWhite Whole (o ∷ os) r)
+pub close_white_more : (o : Open) (os : List Open) (r : Option Element) → AtWhite (state CloseWhite Whole (o ∷ os) r) (state CloseWhite Whole (o ∷ os) r)
 close_white_more o os r at c h = rw (white_not_lead c h, h) refl
 
 pub close_greater : (o : Open) (os : List Open) (r : Option Element) (at : ℕ) → next (state (Close (length o.name)) Whole (o ∷ os) r) at 62 ≡ chosen (closed (element_of o) os r)
@@ -104,7 +104,7 @@ mutual
       then_run (state Between Whole (open_at at n ats [] [] ∷ os) None) from b e (run_content os at n ats content) (run_element (open_at at n ats ks cs ∷ os) h)
 
 -- documents
-outer_white : (r : Option Element) (at c : ℕ) → is_white c ≡ true → next (state Between Whole [] r) at c ≡ state Between Whole [] r
+pub outer_white : (r : Option Element) (at c : ℕ) → is_white c ≡ true → next (state Between Whole [] r) at c ≡ state Between Whole [] r
 outer_white r at c h = rw (white_not_lead c h, h) refl
 
 run_extras : (r : Option Element) (at : ℕ) {x : List ℕ} → AreExtras x → run (state Between Whole [] r) at x ≡ state Between Whole [] r

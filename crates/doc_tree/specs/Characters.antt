@@ -3,7 +3,7 @@ use Rattle.std.specs.Prelude.{◌≡◌, ℕ, ◌+◌, ◌-◌, ◌*◌, ◌/◌
 use Rattle.doc_tree.specs.declared.places.Quote.{Quote}
 use Rattle.doc_tree.specs.declared.places.Quote.TheVariants.{Single, Double}
 use Rattle.doc_tree.specs.declared.places.Class.{Class}
-use Rattle.doc_tree.specs.declared.places.Class.TheVariants.{Text, Value, Comment, Instruction}
+use Rattle.doc_tree.specs.declared.places.Class.TheVariants.{White, Text, Value, Comment, Instruction}
 use Rattle.doc_tree.specs.declared.places.Entity.{Entity}
 use Rattle.doc_tree.specs.declared.places.Entity.TheVariants as entity
 use Rattle.doc_tree.specs.declared.places.Radix.{Radix}
@@ -52,6 +52,7 @@ all_bytes ok (c ∷ s) = cond (ok c) (all_bytes ok s) false
 
 -- the tests by which bytes are taken in one go
 abbrev pub class_test : Class → ℕ → Bool
+class_test White = is_white
 class_test Text = is_text
 class_test (Value q) = is_value q
 class_test Comment = is_comment_byte

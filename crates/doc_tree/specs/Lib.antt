@@ -9,3 +9,4 @@ pub mod Readers
 pub mod Writable
 pub mod Instances
 pub mod Tokens
+pub mod Answers

@@ -1,21 +1,21 @@
-ghost use Rattle.std.specs.Prelude.{◌≡◌, ◌++◌, ◌∷◌, [], IfOk, IfSome};
+ghost use Rattle.std.specs.Prelude.{◌≡◌, ◌++◌, ◌∷◌, [], IfOk, IfSome, OnOk};
 ghost use Rattle.doc_tree.specs.Documents.{is_fresh};
 ghost use Rattle.doc_tree.specs.Known.{AreKnown};
 
 use crate::lists::put;
 use doc_model::Attribute;
 use name_tables::Ids;
-use sqlite_items::{Boxed, Items};
+use sqlite_items::Items;
 use std::alloc::Global;
 use std::marker::Model;
 use wide_sums::Memory;
 
-/// The attributes of a start tag as it is read; contracts see the list of them. Where they are many, the names of the first ones
-/// are kept a second time, to be looked up.
+/// The attributes of a start tag as it is read; contracts see the list of them. Where they are many, their names are kept
+/// a second time, to be looked up.
 #[derive(Debug, Drop)]
 pub struct Attributes {
     items: Items<Attribute>,
-    known: Option<Boxed<Ids>>,
+    known: Option<Box<Ids>>,
 }
 
 impl Model for Attributes {
@@ -27,7 +27,7 @@ impl Model for Attributes {
 
     ghost view = { λ a. a.items };
 
-    ghost invariant = { λ a. IfSome a.known (λ known. AreKnown known a.items) };
+    ghost invariant = { λ a. IfSome a.known (λ known. AreKnown known.value a.items) };
 }
 
 fn is_fresh(name: &[u8], attributes: &[Attribute]) -> bool
@@ -41,7 +41,7 @@ fn is_fresh(name: &[u8], attributes: &[Attribute]) -> bool
     true
 }
 
-/// Whether no attribute has the name, where the names of the first ones are known.
+/// Whether no attribute has the name, where the names of the first ones, mostly of all, are known.
 fn is_fresh_beside(known: &Ids, name: &[u8], attributes: &[Attribute]) -> bool
     requires { AreKnown known.now attributes.now }
     ensures { result ≡ is_fresh name.now attributes.now }
@@ -53,35 +53,58 @@ fn is_fresh_beside(known: &Ids, name: &[u8], attributes: &[Attribute]) -> bool
 }
 
 /// One name more is known, if there is one.
-fn with_next_name(alloc: Global, mut known: Ids, attributes: &[Attribute]) -> Result<Ids, Memory>
-    requires { AreKnown known attributes.now }
-    ensures { IfOk result (λ names. AreKnown names attributes.now) }
+fn know_next(alloc: Global, known: &mut Ids, attributes: &[Attribute]) -> Result<(), Memory>
+    requires { AreKnown known.old attributes.now }
+    ensures { OnOk result (AreKnown known.new attributes.now) }
 {
     let count = known.count();
     if count == u32::MAX {
-        return Ok(known);
+        return Ok(());
     }
     match attributes.get(count as usize) {
-        None => Ok(known),
+        None => Ok(()),
         Some(attribute) => {
             let name = attribute.name.copy(alloc)?;
             known.add(name)?;
-            Ok(known)
+            Ok(())
         }
     }
 }
 
+/// The names of the attributes.
+fn all_names(alloc: Global, attributes: &[Attribute]) -> Result<Box<Ids>, Memory>
+    ensures { IfOk result (λ known. AreKnown known.value attributes.now) }
+{
+    let mut known = Ids::new(alloc);
+    for _ in 0..attributes.len() {
+        know_next(alloc, &mut known, attributes)?;
+    }
+    Ok(Box::new(alloc, known)?)
+}
+
+fn with_next_name(
+    alloc: Global,
+    mut known: Box<Ids>,
+    attributes: &[Attribute],
+) -> Result<Box<Ids>, Memory>
+    requires { AreKnown known.value attributes.now }
+    ensures { IfOk result (λ names. AreKnown names.value attributes.now) }
+{
+    know_next(alloc, &mut known, attributes)?;
+    Ok(known)
+}
+
 fn known_names(
     alloc: Global,
-    known: Option<Boxed<Ids>>,
+    known: Option<Box<Ids>>,
     attributes: &[Attribute],
-) -> Result<Ids, Memory>
-    requires { IfSome known (λ names. AreKnown names attributes.now) }
-    ensures { IfOk result (λ names. AreKnown names attributes.now) }
+) -> Result<Box<Ids>, Memory>
+    requires { IfSome known (λ names. AreKnown names.value attributes.now) }
+    ensures { IfOk result (λ names. AreKnown names.value attributes.now) }
 {
     match known {
-        None => with_next_name(alloc, Ids::new(alloc), attributes),
-        Some(known) => with_next_name(alloc, known.into_inner(), attributes),
+        None => all_names(alloc, attributes),
+        Some(known) => with_next_name(alloc, known, attributes),
     }
 }
 
@@ -102,7 +125,7 @@ impl Attributes {
     {
         match &self.known {
             None => is_fresh(name, self.items.as_slice()),
-            Some(known) => is_fresh_beside(known.get(), name, self.items.as_slice()),
+            Some(known) => is_fresh_beside(known, name, self.items.as_slice()),
         }
     }
 
@@ -116,8 +139,7 @@ impl Attributes {
         if items.len() <= 8 {
             return Ok(Attributes { items, known: None });
         }
-        let names = known_names(alloc, known, items.as_slice())?;
-        let known = Boxed::new(alloc, names)?;
+        let known = known_names(alloc, known, items.as_slice())?;
         Ok(Attributes {
             items,
             known: Some(known),

@@ -197,6 +197,7 @@ impl Class {
         ensures { result ≡ class_test self byte }
     {
         match self {
+            Class::White => is_white(byte),
             Class::Text => is_text(byte),
             Class::Value(quote) => is_value(quote, byte),
             Class::Comment => is_comment_byte(byte),

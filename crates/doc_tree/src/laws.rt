@@ -1,5 +1,6 @@
 ghost use Rattle.std.specs.Prelude.{◌≡◌, ℕ, List};
 ghost use Rattle.doc_model.specs.declared.tree.Element.{Element};
+ghost use Rattle.doc_tree.specs.Answers.{HasOneAnswer};
 ghost use Rattle.doc_tree.specs.Documents.{Spells};
 ghost use Rattle.doc_tree.specs.Instances.{DepthIsRefused, DocumentIsSpelled, EndIsRefused, ReferencesAreSpelled};
 ghost use Rattle.doc_tree.specs.Writable.{WrittenIsSpelled};
@@ -7,6 +8,12 @@ ghost use Rattle.doc_tree.specs.Writable.{WrittenIsSpelled};
 /// Bytes spell at most one tree.
 pub fn spelled_tree_is_one()
     ensures { (b : List ℕ) (t u : Element) → Spells b t → Spells b u → t ≡ u }
+{}
+
+/// Of each list of bytes exactly one answer of [`Reader::finish`](crate::Reader::finish) other than want of memory is right: the tree
+/// that they spell, the offset of the first element within 256 open ones, or the offset up to which a document begins with them.
+pub fn documents_have_one_answer()
+    ensures { (b : List ℕ) → HasOneAnswer b }
 {}
 
 /// The text that `write` gives of a tree spells that tree, offsets aside: where no element has both children and a text, a text that

@@ -4,6 +4,7 @@
 mod attributes;
 mod characters;
 mod faults;
+mod feeding;
 mod laws;
 mod lists;
 mod places;
@@ -15,5 +16,7 @@ mod tokens;
 
 pub use doc_model::{Attribute, Element, TextWriter, write};
 pub use faults::{DocFault, Fault};
-pub use laws::{small_instances_hold, spelled_tree_is_one, written_text_is_spelled};
+pub use laws::{
+    documents_have_one_answer, small_instances_hold, spelled_tree_is_one, written_text_is_spelled,
+};
 pub use reader::{Reader, read_pieces};

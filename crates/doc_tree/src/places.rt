@@ -49,6 +49,7 @@ pub enum Entity {
 /// Characters of ASCII that are taken in one go.
 #[derive(Clone, Copy, Debug, PartialEq, Eq)]
 pub enum Class {
+    White,
     Text,
     Value(Quote),
     Comment,

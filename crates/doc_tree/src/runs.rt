@@ -1,6 +1,7 @@
 ghost use Rattle.std.specs.Prelude.{◌≡◌, ◌++◌, ◌∷◌, ◌<◌, ◌≤◌, ◌+◌, [], ℕ, List, None, Option, IfOk, IfSome, length, take, true};
 ghost use Rattle.doc_model.specs.declared.tree.Element.{Element};
 ghost use Rattle.doc_tree.specs.declared.places.Open.{Open};
+ghost use Rattle.doc_tree.specs.declared.places.Place.TheVariants as place;
 ghost use Rattle.doc_tree.specs.declared.places.Part.TheVariants as part;
 ghost use Rattle.doc_tree.specs.Characters.{all_bytes, is_name_byte};
 ghost use Rattle.doc_tree.specs.Machine.{state};
@@ -48,8 +49,52 @@ pub fn ended_name(opens: &Stack, bytes: &[u8]) -> Option<usize>
     None
 }
 
-/// Bytes at the front that stand for themselves in a text, a value, a name, a comment or an instruction, taken in one go, and how
-/// many they are. Of an end tag it is the whole name.
+/// White outside the root, or plain characters of the innermost element, taken in one go, and how many bytes they are.
+fn take_text(opens: &mut Stack, bytes: &[u8]) -> Result<usize, Memory>
+    ensures within { IfOk result (λ n. n ≤ length bytes.now) }
+    ensures read { IfOk result (λ n. (r : Option Element) (count : ℕ) (b : List ℕ) → HasReadBy None (state place.Between part.Whole opens.old r) count b
+        → HasReadBy None (state place.Between part.Whole opens.new r) (count + n) (b ++ take n bytes.now)) }
+{
+    if opens.is_empty() {
+        return Ok(Class::White.run(bytes));
+    }
+    let count = Class::Text.run(bytes);
+    opens.add_text(&bytes[..count])?;
+    Ok(count)
+}
+
+/// The name of an end tag of which so many bytes were read, taken in one go where it is whole, and how many bytes it is.
+fn take_ended_name(read: &mut usize, opens: &Stack, bytes: &[u8]) -> usize
+    ensures within { result ≤ length bytes.now }
+    ensures read { (r : Option Element) (count : ℕ) (b : List ℕ) → HasReadBy None (state (place.Close read.old) part.Whole opens.now r) count b
+        → HasReadBy None (state (place.Close read.new) part.Whole opens.now r) (count + result) (b ++ take result bytes.now) }
+{
+    if *read > 0 {
+        return 0;
+    }
+    match ended_name(opens, bytes) {
+        None => 0,
+        Some(count) => {
+            *read = count;
+            count
+        }
+    }
+}
+
+/// How many bytes of white stand at the front, behind an end tag's name and white.
+fn end_white(opens: &Stack, bytes: &[u8]) -> usize
+    ensures within { result ≤ length bytes.now }
+    ensures read { (r : Option Element) (count : ℕ) (b : List ℕ) → HasReadBy None (state place.CloseWhite part.Whole opens.now r) count b
+        → HasReadBy None (state place.CloseWhite part.Whole opens.now r) (count + result) (b ++ take result bytes.now) }
+{
+    if opens.is_empty() {
+        return 0;
+    }
+    Class::White.run(bytes)
+}
+
+/// Bytes at the front that stand for themselves in a text, a value, a name, a comment or an instruction, or that are white outside
+/// the root or within a tag, taken in one go, and how many they are. Of an end tag it is the whole name.
 #[inline(never)]
 pub fn take_run(place: &mut Place, opens: &mut Stack, bytes: &[u8]) -> Result<usize, Memory>
     ensures within { IfOk result (λ n. n ≤ length bytes.now) }
@@ -57,13 +102,10 @@ pub fn take_run(place: &mut Place, opens: &mut Stack, bytes: &[u8]) -> Result<us
         → HasReadBy None (state place.new part.Whole opens.new r) (count + n) (b ++ take n bytes.now)) }
 {
     match place {
-        Place::Between => {
-            let count = Class::Text.run(bytes);
-            if opens.add_text(&bytes[..count])? {
-                return Ok(count);
-            }
-            Ok(0)
-        }
+        Place::Between => take_text(opens, bytes),
+        Place::Blank(_) => Ok(Class::White.run(bytes)),
+        Place::AfterKey(_, _) => Ok(Class::White.run(bytes)),
+        Place::Equals(_, _) => Ok(Class::White.run(bytes)),
         Place::Value(_, _, quote, value) => {
             let count = Class::Value(*quote).run(bytes);
             value.append(&bytes[..count])?;
@@ -77,18 +119,8 @@ pub fn take_run(place: &mut Place, opens: &mut Stack, bytes: &[u8]) -> Result<us
             let count = take_name(name, bytes)?;
             Ok(count)
         }
-        Place::Close(read) => {
-            if *read > 0 {
-                return Ok(0);
-            }
-            match ended_name(opens, bytes) {
-                None => Ok(0),
-                Some(count) => {
-                    *read = count;
-                    Ok(count)
-                }
-            }
-        }
+        Place::Close(read) => Ok(take_ended_name(read, opens, bytes)),
+        Place::CloseWhite => Ok(end_white(opens, bytes)),
         Place::Target => Ok(name_run(bytes)),
         Place::Comment(dashes) => {
             let count = Class::Comment.run(bytes);

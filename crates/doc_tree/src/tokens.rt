@@ -218,15 +218,21 @@ fn take_pair(
     }
 }
 
-/// An attribute, taken in one go where it lies whole at the front with a plain value in double quotes. How many bytes it is, or zero.
+/// An attribute, taken in one go where it lies whole at the front with a plain value in double quotes, or white before one. How many
+/// bytes it is, or zero.
 #[inline(never)]
-fn take_attribute(alloc: Global, place: &mut Place, bytes: &[u8]) -> Result<usize, Memory>
+fn take_attribute(
+    alloc: Global,
+    place: &mut Place,
+    opens: &mut Stack,
+    bytes: &[u8],
+) -> Result<usize, Memory>
     ensures within { IfOk result (λ n. n ≤ length bytes.now) }
-    ensures read { IfOk result (λ n. (os : List Open) (r : Option Element) (at : ℕ) (b : List ℕ) → HasReadBy None (state place.old part.Whole os r) at b
-        → HasReadBy None (state place.new part.Whole os r) (at + n) (b ++ take n bytes.now)) }
+    ensures read { IfOk result (λ n. (r : Option Element) (at : ℕ) (b : List ℕ) → HasReadBy None (state place.old part.Whole opens.old r) at b
+        → HasReadBy None (state place.new part.Whole opens.new r) (at + n) (b ++ take n bytes.now)) }
 {
     match pair(bytes) {
-        None => Ok(0),
+        None => take_run(place, opens, bytes),
         Some(found) => take_pair(alloc, place, bytes, found.0, found.1),
     }
 }
@@ -272,7 +278,7 @@ pub fn take_token(
 {
     match place {
         Place::Between => take_between(alloc, place, opens, root, at, bytes),
-        Place::Blank(_) => take_attribute(alloc, place, bytes),
+        Place::Blank(_) => take_attribute(alloc, place, opens, bytes),
         _ => take_run(place, opens, bytes),
     }
 }

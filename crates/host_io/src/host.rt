@@ -10,8 +10,9 @@ use std::io::{Read, Write};
 use std::marker::Model;
 use std::{fs, str};
 
-/// The files of the system, by the runtime `R`. They tell no content. Once the count of faults
-/// stands at its greatest value every call fails.
+/// The files of the system, by the runtime `R`. They don't tell what they hold; of the current file
+/// they tell what the runtime tells. Once the count of faults stands at its greatest value every
+/// call fails.
 #[derive(Drop)]
 pub struct HostFiles<R: fs::Files + Drop> {
     rt: R,
@@ -21,17 +22,21 @@ pub struct HostFiles<R: fs::Files + Drop> {
 
 impl<R: fs::Files + Drop> Model for HostFiles<R> {
     ghost use Rattle.std.specs.Prelude.{is_some};
-    ghost use Rattle.host_io.specs.Host.{HostState};
+    ghost use Rattle.host_io.specs.Host.{HostState, left_in};
 
     ghost Value = { HostState };
 
-    ghost view = { λ f. record { ready = is_some f.file; faults = f.faults } };
+    ghost view = { λ f. record {
+      ready = is_some f.file;
+      left = left_in R.File.remaining f.file;
+      faults = f.faults;
+    } };
 }
 
 impl<R: fs::Files + Drop> HostFiles<R> {
     /// The files that `rt` reaches, with no current file and no fault.
     pub fn new(rt: R) -> HostFiles<R>
-        ensures { result ≡ record { ready = false; faults = 0 } }
+        ensures { result ≡ record { ready = false; left = None; faults = 0 } }
     {
         HostFiles {
             rt,
@@ -51,21 +56,19 @@ impl<R: fs::Files + Drop> HostFiles<R> {
 impl<R: fs::Files + Drop> Files for HostFiles<R> {
     ghost held = { λ _. None };
 
-    ghost left = { λ _. None };
+    ghost left = { λ files. files.left };
 
     ghost ready = { λ files. files.ready };
 
     ghost faults = { λ files. files.faults };
 
     fn open_file(&mut self, name: &Name) -> Result<(), Failed>
-        ensures state { self.new ≡ record {
-          ready = is_ok result;
-          faults = faults_after (is_err result) self.old.faults;
-        } }
+        ensures state { self.new.faults ≡ faults_after (is_err result) self.old.faults }
         ensures spent { self.old.faults ≡ 2 ^ 64 - 1 → IsErr result }
-        ensures opened { OnOk result (IsOpened None name.now None) }
+        ensures opened { OnOk result (IsOpened None name.now self.new.left) }
         ensures ready { self.new.ready ≡ is_ok result }
         ensures later { self.old.faults ≤ self.new.faults }
+        ensures quiet { OnOk result (self.new.faults ≡ self.old.faults) }
         ensures failed { OnErr result
             (Rose self.old.faults self.new.faults ⊎ IsUnheld None name.now) }
     {
@@ -85,13 +88,12 @@ impl<R: fs::Files + Drop> Files for HostFiles<R> {
     fn read(&mut self, buf: &mut [u8]) -> Result<usize, Failed>
         requires ready { IsTrue self.old.ready }
         requires room { 0 < length buf.old }
-        ensures state { self.new ≡ record self.old {
-          faults = faults_after (is_err result) self.old.faults;
-        } }
+        ensures state { self.new.faults ≡ faults_after (is_err result) self.old.faults }
         ensures spent { self.old.faults ≡ 2 ^ 64 - 1 → IsErr result }
         ensures bound { ReadsAtMost result buf.new }
-        ensures bytes { ReadConsumes None None result buf.new }
+        ensures bytes { ReadConsumes self.old.left self.new.left result buf.new }
         ensures ready { IsTrue self.new.ready }
+        ensures quiet { OnOk result (self.new.faults ≡ self.old.faults) }
         ensures cause { HasCause self.old.faults self.new.faults result }
     {
         if self.faults < u64::MAX {
@@ -106,8 +108,8 @@ impl<R: fs::Files + Drop> Files for HostFiles<R> {
     }
 }
 
-/// A writer of the system, as standard output. It tells no content. Once the count of faults stands
-/// at its greatest value every call fails.
+/// A writer of the system, as standard output. It tells what the writer tells. Once the count of
+/// faults stands at its greatest value every call fails.
 #[derive(Drop)]
 pub struct HostSink<W: Write + Drop> {
     writer: W,
@@ -115,42 +117,43 @@ pub struct HostSink<W: Write + Drop> {
 }
 
 impl<W: Write + Drop> Model for HostSink<W> {
-    ghost use Rattle.std.specs.Prelude.{ℕ};
+    ghost use Rattle.host_io.specs.Host.{SinkSeen};
 
-    ghost Value = { ℕ };
+    ghost Value = { SinkSeen };
 
-    ghost view = { λ s. s.faults };
+    ghost view = { λ s. record { written = W.contents s.writer; faults = s.faults } };
 }
 
 impl<W: Write + Drop> HostSink<W> {
     /// The sink that writes to `writer`, as `io::writer(&rt)`, with no fault.
     pub fn new(writer: W) -> HostSink<W>
-        ensures { result ≡ 0 }
+        ensures { result ≡ record { written = W.contents writer; faults = 0 } }
     {
         HostSink { writer, faults: 0 }
     }
 
     /// How many faults there were.
     pub fn faults(&self) -> u64
-        ensures { result ≡ self.now }
+        ensures { result ≡ self.now.faults }
     {
         self.faults
     }
 }
 
 impl<W: Write + Drop> Sink for HostSink<W> {
-    ghost written = { λ _. None };
+    ghost written = { λ sink. sink.written };
 
-    ghost faults = { λ sink. sink };
+    ghost faults = { λ sink. sink.faults };
 
     fn put(&mut self, piece: &[u8]) -> Result<usize, Failed>
         requires { 0 < length piece.now }
-        ensures state { self.new ≡ faults_after (is_err result) self.old }
-        ensures spent { self.old ≡ 2 ^ 64 - 1 → IsErr result }
+        ensures state { self.new.faults ≡ faults_after (is_err result) self.old.faults }
+        ensures spent { self.old.faults ≡ 2 ^ 64 - 1 → IsErr result }
         ensures some { IfOk result (λ n. 0 < n) }
         ensures within { IfOk result (λ n. n ≤ length piece.now) }
-        ensures bytes { WriteAppends None None result piece.now }
-        ensures cause { HasCause self.old self.new result }
+        ensures bytes { WriteAppends self.old.written self.new.written result piece.now }
+        ensures quiet { OnOk result (self.new.faults ≡ self.old.faults) }
+        ensures cause { HasCause self.old.faults self.new.faults result }
     {
         if self.faults < u64::MAX {
             if let Ok(count) = self.writer.write(piece) {

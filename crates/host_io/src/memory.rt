@@ -159,6 +159,7 @@ impl Files for MemFiles {
         ensures ready { is_some self.new.current ≡ is_ok result }
         ensures same { Some (held_by self.new.entries) ≡ Some (held_by self.old.entries) }
         ensures later { self.old.faults ≤ self.new.faults }
+        ensures quiet { OnOk result (self.new.faults ≡ self.old.faults) }
         ensures failed { OnErr result
             (Rose self.old.faults self.new.faults ⊎ IsUnheld (Some (held_by self.old.entries)) name.now) }
     {
@@ -192,6 +193,7 @@ impl Files for MemFiles {
         ensures bytes { ReadConsumes (Some (left_in self.old)) (Some (left_in self.new)) result buf.new }
         ensures ready { IsTrue (is_some self.new.current) }
         ensures same { Some (held_by self.new.entries) ≡ Some (held_by self.old.entries) }
+        ensures quiet { OnOk result (self.new.faults ≡ self.old.faults) }
         ensures cause { HasCause self.old.faults self.new.faults result }
     {
         let call = self.calls;
@@ -313,6 +315,7 @@ impl Sink for MemSink {
         ensures some { IfOk result (λ n. 0 < n) }
         ensures within { IfOk result (λ n. n ≤ length piece.now) }
         ensures bytes { WriteAppends (Some self.old.bytes) (Some self.new.bytes) result piece.now }
+        ensures quiet { OnOk result (self.new.faults ≡ self.old.faults) }
         ensures cause { HasCause self.old.faults self.new.faults result }
     {
         let call = self.calls;

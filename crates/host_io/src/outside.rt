@@ -39,12 +39,13 @@ pub trait Files {
     /// Makes the named file the current one, at its beginning. A file that was open before is left.
     ///
     /// [`Failed`] comes only where the count of faults rose in this call, or where it is told that
-    /// the name isn't held; no file is current then.
+    /// the name isn't held; no file is current then. Without it the count stands still.
     fn open_file(&mut self, name: &Name) -> Result<(), Failed>
         ensures opened { OnOk result (IsOpened (held self.old) name.now (left self.new)) }
         ensures ready { ready self.new ≡ is_ok result }
         ensures same { held self.new ≡ held self.old }
         ensures later { faults self.old ≤ faults self.new }
+        ensures quiet { OnOk result (faults self.new ≡ faults self.old) }
         ensures failed { OnErr result
             (Rose (faults self.old) (faults self.new) ⊎ IsUnheld (held self.old) name.now) };
 
@@ -52,7 +53,7 @@ pub trait Files {
     /// answers 0 only at the end of the file.
     ///
     /// [`Failed`] comes only where the count of faults rose in this call. The same bytes are then
-    /// still to read, and the bytes of `buf` are any.
+    /// still to read, and the bytes of `buf` are any. Without it the count stands still.
     fn read(&mut self, buf: &mut [u8]) -> Result<usize, Failed>
         requires ready { IsTrue (ready self.old) }
         requires room { 0 < length buf.old }
@@ -60,6 +61,7 @@ pub trait Files {
         ensures bytes { ReadConsumes (left self.old) (left self.new) result buf.new }
         ensures ready { IsTrue (ready self.new) }
         ensures same { held self.new ≡ held self.old }
+        ensures quiet { OnOk result (faults self.new ≡ faults self.old) }
         ensures cause { HasCause (faults self.old) (faults self.new) result };
 }
 
@@ -74,12 +76,13 @@ pub trait Sink {
     /// Takes bytes from the front of `piece`, at least one, and answers how many.
     ///
     /// [`Failed`] comes only where the count of faults rose in this call, and nothing was taken
-    /// then. An object that can take nothing of the piece answers it.
+    /// then. An object that can take nothing of the piece answers it. Without it the count stands still.
     fn put(&mut self, piece: &[u8]) -> Result<usize, Failed>
         requires { 0 < length piece.now }
         ensures some { IfOk result (λ n. 0 < n) }
         ensures within { IfOk result (λ n. n ≤ length piece.now) }
         ensures bytes { WriteAppends (written self.old) (written self.new) result piece.now }
+        ensures quiet { OnOk result (faults self.new ≡ faults self.old) }
         ensures cause { HasCause (faults self.old) (faults self.new) result };
 }
 

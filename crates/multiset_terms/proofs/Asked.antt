@@ -7,19 +7,20 @@ use Rattle.name_tables.proofs.Places.{position-map}
 use Rattle.colour_sorts.specs.declared.rules.Rule.{Rule}
 use Rattle.colour_sorts.specs.declared.rules.Rule.TheVariants as rule
 use Rattle.colour_sorts.specs.declared.sorts.Sort.{Sort}
-use Rattle.colour_sorts.specs.declared.written.NamedSort.{NamedSort}
-use Rattle.colour_sorts.specs.declared.written.Partition.{Partition}
-use Rattle.colour_sorts.specs.declared.written.SortTerm.{SortTerm}
+use Rattle.net_model.specs.declared.sorts.NamedSort.{NamedSort}
+use Rattle.net_model.specs.declared.sorts.Partition.{Partition}
+use Rattle.net_model.specs.declared.sorts.SortTerm.{SortTerm}
 use Rattle.colour_sorts.specs.Calls.{sort_at}
 use Rattle.colour_sorts.specs.Colours.{size}
 use Rattle.colour_sorts.specs.Domain.{Domain}
 use Rattle.colour_sorts.specs.Domain as domains
 use Rattle.colour_sorts.specs.Limits.{broken_in}
-use Rattle.colour_sorts.specs.Naming.{broken_rule, constants_of, has_end, is_known, place_of, sort_of}
+use Rattle.net_model.specs.Ids.{constants_of}
+use Rattle.colour_sorts.specs.Naming.{broken_rule, has_end, is_known, place_of, sort_of}
 use Rattle.colour_sorts.proofs.Sizes.{unbroken-size}
 use Rattle.multiset_terms.specs.declared.parts.Part.{Part}
-use Rattle.multiset_terms.specs.declared.terms.Term.{Term}
-use Rattle.multiset_terms.specs.declared.terms.Term.TheVariants as term
+use Rattle.net_model.specs.declared.terms.Term.{Term}
+use Rattle.net_model.specs.declared.terms.Term.TheVariants as term
 use Rattle.multiset_terms.specs.Context.{Context, Declarations}
 use Rattle.multiset_terms.specs.Parts.{HasSize, IsPart, IsScope}
 use Rattle.multiset_terms.specs.Typing.{at_place, at_root, block_kind_at, judged, partition_place, partition_sort, sort_named}

@@ -12,13 +12,13 @@ use Rattle.name_tables.proofs.Places.{prefix_len-map}
 use Rattle.colour_sorts.specs.declared.sorts.Colour.{Colour}
 use Rattle.colour_sorts.specs.declared.sorts.Sort.{Sort}
 use Rattle.colour_sorts.specs.declared.sorts.Sort.TheVariants as sort
-use Rattle.colour_sorts.specs.declared.written.Partition.{Partition}
-use Rattle.colour_sorts.specs.declared.written.SortTerm.TheVariants as written
+use Rattle.net_model.specs.declared.sorts.Partition.{Partition}
+use Rattle.net_model.specs.declared.sorts.SortTerm.TheVariants as written
 use Rattle.colour_sorts.specs.Calls.{blocks_at, group_of, place_in}
 use Rattle.colour_sorts.specs.Colours.{colours}
 use Rattle.colour_sorts.specs.Dividing.{block_with}
-use Rattle.colour_sorts.specs.Domain.{blocks_of, domain_of, element_ids, partition_sort_of}
-use Rattle.colour_sorts.specs.Naming.{constants_of}
+use Rattle.net_model.specs.Ids.{constants_of, element_ids}
+use Rattle.colour_sorts.specs.Domain.{blocks_of, domain_of, partition_sort_of}
 use Rattle.multiset_terms.specs.Agreeing.{IsOneColour}
 use Rattle.multiset_terms.specs.Context.{Context}
 use Rattle.multiset_terms.specs.Parts.{IsBlockWith}

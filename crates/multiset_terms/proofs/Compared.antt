@@ -6,15 +6,15 @@ use Rattle.colour_sorts.specs.declared.rules.Rule.{Rule}
 use Rattle.colour_sorts.specs.declared.sorts.Colour.TheVariants as colour
 use Rattle.colour_sorts.specs.declared.sorts.Sort.{Sort}
 use Rattle.colour_sorts.specs.Domain.{domain_of}
-use Rattle.multiset_terms.specs.declared.conditions.Condition.TheVariants as condition
+use Rattle.multiset_terms.specs.declared.conditions.CGuard.TheVariants as condition
 use Rattle.multiset_terms.specs.declared.guards.GuardPart.{GuardPart}
 use Rattle.multiset_terms.specs.declared.kinds.Kind.{Kind}
 use Rattle.multiset_terms.specs.declared.kinds.Kind.TheVariants as kind
 use Rattle.multiset_terms.specs.declared.parts.Part.{Part}
-use Rattle.multiset_terms.specs.declared.terms.Guard.TheVariants as guard
-use Rattle.multiset_terms.specs.declared.terms.Order.{Order}
-use Rattle.multiset_terms.specs.declared.terms.Order.TheVariants as order
-use Rattle.multiset_terms.specs.declared.terms.Term.{Term}
+use Rattle.net_model.specs.declared.terms.Guard.TheVariants as guard
+use Rattle.net_model.specs.declared.terms.Order.{Order}
+use Rattle.net_model.specs.declared.terms.Order.TheVariants as order
+use Rattle.net_model.specs.declared.terms.Term.{Term}
 use Rattle.multiset_terms.specs.Agreeing.{IsOneColour}
 use Rattle.multiset_terms.specs.Conditions.{block_uses_at, compares_blocks, condition_uses_part, verdict_of_parts}
 use Rattle.multiset_terms.specs.Context.{Context}
@@ -29,8 +29,11 @@ use Rattle.multiset_terms.proofs.Agreement.{lists-agree}
 use Rattle.multiset_terms.proofs.Blocks.{one-colour-fits}
 use Rattle.multiset_terms.proofs.Comparing.{block-fit, block-placed, colours-compare, same-block, second-colour}
 use Rattle.multiset_terms.proofs.Distinct.{once-sort}
-use Rattle.multiset_terms.proofs.GuardLayers.{condition-Compare, condition-CompareBlocks}
-use Rattle.multiset_terms.proofs.Layers.{fold-Compare}
+use Rattle.net_model.specs.declared.terms.Guard.TheOpen as written
+use Rattle.multiset_terms.specs.declared.conditions.CGuard.TheOpen as open_guard
+use Rattle.multiset_terms.proofs.Conjunctions.{alone, leaf}
+use Rattle.multiset_terms.proofs.ConditionLayers.{condition-Compare, condition-CompareBlocks}
+use Rattle.net_model.proofs.Layers.{fold-Compare}
 use Rattle.multiset_terms.proofs.Lightness.{is_single, single-one}
 use Rattle.multiset_terms.proofs.Roots.{term-apart}
 use Rattle.multiset_terms.proofs.SameColour.{own}
@@ -68,7 +71,7 @@ pub colours-compared : (ctx : Context) (by : Order) (t u : Term) (p q : Part) (s
 colours-compared ctx by t u p q s distinct known other is allowed =
     let same : q.kind ≡ kind.Colour s = second-colour by s q.kind (allowed ∙ ap (λ k. can_be_compared by (k ∷ q.kind ∷ [])) is) in
     let agree = lists-agree (colours_of ctx s) (once-sort _ distinct s) in
-    record {
+    alone ctx (guard.Compare by t u) (condition.Compare by p.tree q.tree) (record {
       variables = λ at id here. condition-Compare (condition_uses_part at) by p.tree q.tree
           ∙ ap (λ x. x || uses_at at q.tree) (known.variables at id here) ∙ ap (λ x. occurs id t || x) (other.variables at id here)
           ∙ sym (fold-Compare (occurs_in_guard_part id) by t u);
@@ -83,7 +86,8 @@ colours-compared ctx by t u p q s distinct known other is allowed =
           ap (λ v. v.is_true) (condition-Compare (verdict_of_parts (domain_of ctx.sorts ctx.partitions) indices) by p.tree q.tree)
           ∙ colours-compare ctx by s _ _ _ _ agree first.one second.one first.sort second.sort first.none second.none
           ∙ sym (fold-Compare (truth_part ctx b) by t u);
-    }
+    })
+    (leaf _ _ (written.Compare by t u) (open_guard.Compare by p.tree q.tree) (guard.rolls-Compare by t u) (condition.rolls-Compare by p.tree q.tree) refl refl refl refl)
 
 -- blocks
 record IsEquality (by : Order) : Type 0 where
@@ -127,7 +131,7 @@ blocks-compared ctx by t u p q partition known other is allowed =
     let d = domain_of ctx.sorts ctx.partitions in
     let first_tree = block_tree_of p.block p.tree in
     let second_tree = block_tree_of q.block q.tree in
-    record {
+    alone ctx (guard.Compare by t u) (condition.CompareBlocks (is_equality by) partition first_tree second_tree) (record {
       variables = λ at id here. condition-CompareBlocks (condition_uses_part at) (is_equality by) partition first_tree second_tree
           ∙ ap (λ x. x || block_uses_at at second_tree) (block-use ctx t p at id known here) ∙ ap (λ x. occurs id t || x) (block-use ctx u q at id other here)
           ∙ sym (fold-Compare (occurs_in_guard_part id) by t u);
@@ -143,7 +147,9 @@ blocks-compared ctx by t u p q partition known other is allowed =
           ((term-apart ctx false b t p.kind known.counted.typed).no_colour (ap is_block is))
           ((term-apart ctx false b u q.kind other.counted.typed).no_colour (ap is_block blocks.second))
           ∙ sym (fold-Compare (truth_part ctx b) by t u);
-    }
+    })
+    (leaf _ _ (written.Compare by t u) (open_guard.CompareBlocks (is_equality by) partition first_tree second_tree) (guard.rolls-Compare by t u)
+    (condition.rolls-CompareBlocks (is_equality by) partition first_tree second_tree) refl refl refl refl)
   where
     both-true : (a b : Bool) → a ≡ true → b ≡ true → (a && b) ≡ true
     both-true a b h k = rw (h, k) refl

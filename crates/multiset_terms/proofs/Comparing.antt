@@ -8,10 +8,11 @@ use Rattle.colour_sorts.specs.declared.rules.Rule.TheVariants as rule
 use Rattle.colour_sorts.specs.declared.sorts.Sort.{Sort}
 use Rattle.colour_sorts.specs.Calls.{blocks_at}
 use Rattle.colour_sorts.specs.Domain.{domain_of}
+use Rattle.colour_sorts.specs.Comparing.{is_same_sort}
 use Rattle.multiset_terms.specs.declared.kinds.Kind.{Kind}
 use Rattle.multiset_terms.specs.declared.kinds.Kind.TheVariants as kind
-use Rattle.multiset_terms.specs.declared.terms.Order.{Order}
-use Rattle.multiset_terms.specs.declared.terms.Order.TheVariants as order
+use Rattle.net_model.specs.declared.terms.Order.{Order}
+use Rattle.net_model.specs.declared.terms.Order.TheVariants as order
 use Rattle.multiset_terms.specs.declared.trees.Tree.{Tree}
 use Rattle.multiset_terms.specs.Agreeing.{IsOneColour}
 use Rattle.multiset_terms.specs.Conditions.{block_at, compares, is_block_fit}
@@ -20,10 +21,10 @@ use Rattle.multiset_terms.specs.GuardParts.{block_tree_of}
 use Rattle.multiset_terms.specs.Laws.{ColoursAgree}
 use Rattle.multiset_terms.specs.Parts.{IsBlockValue}
 use Rattle.multiset_terms.specs.Trees.{Reading, once, reading}
-use Rattle.multiset_terms.specs.Typing.{can_be_compared, can_be_ordered, can_be_same, has_order, is_same_sort, wants}
+use Rattle.multiset_terms.specs.Typing.{can_be_compared, can_be_ordered, can_be_same, has_order, wants}
 use Rattle.multiset_terms.specs.Values.{Meaning, colours_of, is_ordered, is_same, is_same_value, place_in, place_of_meaning}
 use Rattle.multiset_terms.proofs.Makers.{wanted}
-use Rattle.multiset_terms.proofs.SameSort.{sort-told}
+use Rattle.colour_sorts.proofs.SameSort.{sort-told}
 
 -- the kinds of what is compared
 same-colour : (s : Sort) (q : Kind) → Ok tt ≡ can_be_same (kind.Colour s ∷ q ∷ []) → q ≡ kind.Colour s

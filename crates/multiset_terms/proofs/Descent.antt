@@ -10,7 +10,7 @@ use Rattle.multiset_terms.specs.declared.faults.PartFault.TheVariants as fault
 use Rattle.multiset_terms.specs.declared.kinds.Kind.{Kind}
 use Rattle.multiset_terms.specs.declared.parts.Children.{Children}
 use Rattle.multiset_terms.specs.declared.parts.Part.{Part}
-use Rattle.multiset_terms.specs.declared.terms.Term.{Term}
+use Rattle.net_model.specs.declared.terms.Term.{Term}
 use Rattle.multiset_terms.specs.Context.{Context}
 use Rattle.multiset_terms.specs.Parts.{AreChildren, AreParts, IsFault, IsMoved, IsPart, Piece, children_of, terms_of, with_child}
 use Rattle.multiset_terms.specs.Typing.{children, in_front, judged, looked_at, node}

@@ -2,7 +2,7 @@
 use Rattle.std.proofs.Common.{◌≡◌, ℕ, ◌+◌, ◌*◌, List, [], ◌∷◌, map, length, sym, ap, ◌∙◌, subst, arith, Some}
 use Rattle.std.proofs.lemmas.Int.{ints}
 use Rattle.std.proofs.lemmas.Option.{slice_get_within}
-use Rattle.colour_sorts.specs.declared.written.Span.{Span}
+use Rattle.net_model.specs.declared.sorts.Span.{Span}
 use Rattle.colour_sorts.specs.declared.sorts.Colour.{Colour}
 use Rattle.colour_sorts.specs.declared.sorts.Colour.TheVariants as colour
 use Rattle.colour_sorts.specs.declared.sorts.Sort.{Sort, map-Sort, roll-Sort, fold-roll-Sort}

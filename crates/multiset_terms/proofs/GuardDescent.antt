@@ -1,15 +1,15 @@
 -- Faults of the children of a guard are those of the guard.
-use Rattle.std.proofs.Common.{◌≡◌, ℕ, ◌+◌, List, [], ◌∷◌, ◌++◌, map, refl, sym, ap, ◌∙◌, arith}
+use Rattle.std.proofs.Common.{◌≡◌, ℕ, ◌+◌, ◌<◌, ◌^◌, List, [], ◌∷◌, ◌++◌, map, refl, sym, ap, ◌∙◌, arith}
 use Rattle.std.specs.Prelude.{Result, Ok, Err, sum_by}
 use Rattle.std.specs.List.{AllByRecursion}
 use Rattle.std.proofs.lemmas.List.Sums.{sum_by-cons}
 use Rattle.colour_sorts.specs.declared.rules.Rule.{Rule}
-use Rattle.multiset_terms.specs.declared.conditions.Condition.{Condition}
+use Rattle.multiset_terms.specs.declared.conditions.CGuard.{CGuard}
 use Rattle.multiset_terms.specs.declared.faults.PartFault.{PartFault}
 use Rattle.multiset_terms.specs.declared.faults.PartFault.TheVariants as fault
 use Rattle.multiset_terms.specs.declared.guards.GuardPart.{GuardPart}
 use Rattle.multiset_terms.specs.declared.guards.GuardParts.{GuardParts}
-use Rattle.multiset_terms.specs.declared.terms.Guard.{Guard}
+use Rattle.net_model.specs.declared.terms.Guard.{Guard}
 use Rattle.multiset_terms.specs.Context.{Context}
 use Rattle.multiset_terms.specs.GuardParts.{AreConditions, AreGuardParts, IsCondition, IsGuardPart}
 use Rattle.multiset_terms.specs.Parts.{IsFault, IsMoved}
@@ -49,13 +49,13 @@ guard-fault-behind ctx gs ps g more (fault.Broken number same) (fault.Broken at 
 
 -- one more child
 pub no-guards : (ctx : Context) (ps : GuardParts) → ps.conditions ≡ [] → ps.nodes ≡ 1 → AreGuardParts ctx [] ps
-no-guards ctx ps none one = record { typed = tt; nodes = sym one; standing = rw none tt }
+no-guards ctx ps none one = record { typed = tt; nodes = sym one; few = omega (arith, one); standing = rw none tt }
 
 typed-more : (ctx : Context) (gs : List Guard) (g : Guard) → AllByRecursion (IsTyped ctx) gs → IsTyped ctx g → AllByRecursion (IsTyped ctx) (gs ++ g ∷ [])
 typed-more ctx [] g known is = (is, tt)
 typed-more ctx (h ∷ hs) g known is = (known.0, typed-more ctx hs g known.1 is)
 
-conditions-more : (ctx : Context) (gs : List Guard) (cs : List Condition) (g : Guard) (c : Condition) → AreConditions ctx gs cs → IsCondition ctx g c → AreConditions ctx (gs ++ g ∷ []) (cs ++ c ∷ [])
+conditions-more : (ctx : Context) (gs : List Guard) (cs : List CGuard) (g : Guard) (c : CGuard) → AreConditions ctx gs cs → IsCondition ctx g c → AreConditions ctx (gs ++ g ∷ []) (cs ++ c ∷ [])
 conditions-more ctx [] [] g c known is = (is, tt)
 conditions-more ctx [] (d ∷ ds) g c known is = absurd known
 conditions-more ctx (h ∷ hs) [] g c known is = absurd known
@@ -67,8 +67,9 @@ nodes-more ctx (h ∷ hs) g =
     omega (arith, nodes-more ctx hs g, sum_by-cons (λ j. j.nodes) (judged_guard ctx h) (map (judged_guard ctx) hs), sum_by-cons (λ j. j.nodes) (judged_guard ctx h) (map (judged_guard ctx) (hs ++ g ∷ [])))
 
 pub more-guards : (ctx : Context) (gs : List Guard) (ps new : GuardParts) (g : Guard) (p : GuardPart) → AreGuardParts ctx gs ps → IsGuardPart ctx g p
-    → new.conditions ≡ ps.conditions ++ p.condition ∷ [] → new.nodes ≡ ps.nodes + p.nodes → AreGuardParts ctx (gs ++ g ∷ []) new
-more-guards ctx gs ps new g p known is conditions nodes = record {
+    → new.conditions ≡ ps.conditions ++ p.condition ∷ [] → new.nodes ≡ ps.nodes + p.nodes → new.nodes < 2 ^ 32 → AreGuardParts ctx (gs ++ g ∷ []) new
+more-guards ctx gs ps new g p known is conditions nodes few = record {
+  few = few;
   typed = typed-more ctx gs g known.typed is.typed;
   nodes = omega (arith, nodes-more ctx gs g, known.nodes, is.nodes, nodes);
   standing = rw conditions (conditions-more ctx gs ps.conditions g p.condition known.standing is.stands);

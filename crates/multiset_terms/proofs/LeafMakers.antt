@@ -14,9 +14,9 @@ use Rattle.colour_sorts.specs.declared.sorts.Sort.{Sort, fold-roll-Sort}
 use Rattle.colour_sorts.specs.declared.sorts.Sort.TheOpen as open_sort
 use Rattle.colour_sorts.specs.declared.sorts.Sort.TheVariants as sort
 use Rattle.colour_sorts.specs.Colours.{colours_of_parts, size}
-use Rattle.colour_sorts.specs.Naming.{constants_of}
+use Rattle.net_model.specs.Ids.{constants_of}
 use Rattle.colour_sorts.specs.Domain.{Domain, domain_of}
-use Rattle.colour_sorts.specs.declared.written.SortTerm.{SortTerm}
+use Rattle.net_model.specs.declared.sorts.SortTerm.{SortTerm}
 use Rattle.colour_sorts.specs.Naming.{broken_rule}
 use Rattle.colour_sorts.proofs.PlacesIn.{none-is-some}
 use Rattle.multiset_terms.specs.declared.faults.PartFault.{PartFault}
@@ -24,8 +24,8 @@ use Rattle.multiset_terms.specs.declared.faults.PartFault.TheVariants as fault
 use Rattle.multiset_terms.specs.declared.kinds.Kind.{Kind}
 use Rattle.multiset_terms.specs.declared.kinds.Kind.TheVariants as kind
 use Rattle.multiset_terms.specs.declared.parts.Part.{Part}
-use Rattle.multiset_terms.specs.declared.terms.Term.{Term}
-use Rattle.multiset_terms.specs.declared.terms.Term.TheVariants as term
+use Rattle.net_model.specs.declared.terms.Term.{Term}
+use Rattle.net_model.specs.declared.terms.Term.TheVariants as term
 use Rattle.multiset_terms.specs.declared.trees.Tree.{Tree, fold-roll-Tree}
 use Rattle.multiset_terms.specs.declared.trees.Tree.TheOpen as open_tree
 use Rattle.multiset_terms.specs.declared.trees.Tree.TheVariants as tree
@@ -39,7 +39,7 @@ use Rattle.multiset_terms.specs.Typing.{at_place, at_root, judged, judged_part, 
 use Rattle.multiset_terms.specs.Values.{Binding, colours_of, many, meaning, meaning_part, one_colour}
 use Rattle.multiset_terms.specs.Weights.{weighed_part}
 use Rattle.multiset_terms.proofs.Distinct.{once-sort}
-use Rattle.multiset_terms.proofs.Layers.{fold-All, fold-Dot, fold-Empty, fold-Variable}
+use Rattle.net_model.proofs.Layers.{fold-All, fold-Dot, fold-Empty, fold-Variable}
 use Rattle.multiset_terms.proofs.Nodes.{nodes-agree}
 use Rattle.multiset_terms.proofs.Pieces.{node-counted}
 

@@ -7,14 +7,16 @@ use Rattle.colour_sorts.specs.declared.rules.Rule.{Rule}
 use Rattle.colour_sorts.specs.declared.rules.Rule.TheVariants as rule
 use Rattle.colour_sorts.specs.declared.sorts.Sort.{Sort}
 use Rattle.colour_sorts.specs.Limits.{passes_limit}
-use Rattle.colour_sorts.specs.Naming.{broken_rule, constants_of}
+use Rattle.net_model.specs.Ids.{constants_of}
+use Rattle.colour_sorts.specs.Naming.{broken_rule}
+use Rattle.colour_sorts.specs.Comparing.{is_same_sort}
 use Rattle.multiset_terms.specs.declared.kinds.Kind.{Kind}
 use Rattle.multiset_terms.specs.declared.kinds.Kind.TheVariants as kind
-use Rattle.multiset_terms.specs.declared.terms.Term.{Term, map-Term, roll-Term, fold-roll-Term}
-use Rattle.multiset_terms.specs.declared.terms.Term.TheFolds.{ind-Term}
-use Rattle.multiset_terms.specs.declared.terms.Term.TheOpen as layer
+use Rattle.net_model.specs.declared.terms.Term.{Term, map-Term, roll-Term, fold-roll-Term}
+use Rattle.net_model.specs.declared.terms.Term.TheFolds.{ind-Term}
+use Rattle.net_model.specs.declared.terms.Term.TheOpen as layer
 use Rattle.multiset_terms.specs.Context.{Context}
-use Rattle.multiset_terms.specs.Typing.{Broken, Judged, at_place, at_root, block_kind_at, children, in_front, is_block, is_choice, is_colour, is_same_sort, judged, judged_part, looked_at, partition_place, product_of, sort_named, sort_of_kind, step_kind, sum_kind, tuple_kind, type_of, unless_broken, wants}
+use Rattle.multiset_terms.specs.Typing.{Broken, Judged, at_place, at_root, block_kind_at, children, in_front, is_block, is_choice, is_colour, judged, judged_part, looked_at, partition_place, product_of, sort_named, sort_of_kind, step_kind, sum_kind, tuple_kind, type_of, unless_broken, wants}
 use Rattle.multiset_terms.specs.Weights.{Weighed, heavy_child, heavy_first, product, weighed, weighed_part}
 
 abbrev pub is_single : Kind → Bool

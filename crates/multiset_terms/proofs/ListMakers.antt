@@ -15,16 +15,17 @@ use Rattle.colour_sorts.specs.declared.sorts.Sort.TheOpen as open_sort
 use Rattle.colour_sorts.specs.declared.sorts.Sort.TheVariants as sort
 use Rattle.colour_sorts.specs.Colours.{colours, colours_of_parts, tuple, tuples}
 use Rattle.colour_sorts.specs.Limits.{passes_limit}
-use Rattle.colour_sorts.specs.Naming.{constants_of}
+use Rattle.net_model.specs.Ids.{constants_of}
 use Rattle.colour_sorts.proofs.Tuples.{length-tuples}
 use Rattle.colour_sorts.proofs.PlacesIn.{none-is-some}
+use Rattle.colour_sorts.specs.Comparing.{is_same_sort}
 use Rattle.multiset_terms.specs.declared.kinds.Kind.{Kind}
 use Rattle.multiset_terms.specs.declared.kinds.Kind.TheVariants as kind
 use Rattle.multiset_terms.specs.declared.parts.Children.{Children}
 use Rattle.multiset_terms.specs.declared.parts.Part.{Part}
-use Rattle.multiset_terms.specs.declared.terms.Term.{Term}
-use Rattle.multiset_terms.specs.declared.terms.Term.TheOpen as layer
-use Rattle.multiset_terms.specs.declared.terms.Term.TheVariants as term
+use Rattle.net_model.specs.declared.terms.Term.{Term}
+use Rattle.net_model.specs.declared.terms.Term.TheOpen as layer
+use Rattle.net_model.specs.declared.terms.Term.TheVariants as term
 use Rattle.multiset_terms.specs.declared.trees.Tree.{Tree, fold-roll-Tree}
 use Rattle.multiset_terms.specs.declared.trees.Tree.TheOpen as open_tree
 use Rattle.multiset_terms.specs.declared.trees.Tree.TheVariants as tree
@@ -35,15 +36,15 @@ use Rattle.multiset_terms.specs.Laws.{IsOnce}
 use Rattle.multiset_terms.specs.Parts.{AreChildren, AreDistinct, AreParts, HasKind, IsPart, PartValue, Piece, children_of, first_size, heavy_over, kinds_of, terms_of, totals_of, tuple_made}
 use Rattle.multiset_terms.specs.Standing.{occurs_part}
 use Rattle.multiset_terms.specs.Trees.{Reading, choices, gross_sum, most, most_colours, reading, reading_of_parts, readings, uses_at, uses_part}
-use Rattle.multiset_terms.specs.Typing.{at_root, is_block, is_choice, is_colour, is_same_sort, judged, judged_part, sort_of_kind, sum_kind, tuple_kind, wants}
+use Rattle.multiset_terms.specs.Typing.{at_root, is_block, is_choice, is_colour, judged, judged_part, sort_of_kind, sum_kind, tuple_kind, wants}
 use Rattle.multiset_terms.specs.Values.{Binding, Meaning, colours_of, meaning, meaning_part}
 use Rattle.multiset_terms.specs.Weights.{product, weighed, weighed_part}
 use Rattle.multiset_terms.proofs.Distinct.{once-sort}
-use Rattle.multiset_terms.proofs.Layers.{fold-Add, fold-Tuple}
+use Rattle.net_model.proofs.Layers.{fold-Add, fold-Tuple}
 use Rattle.multiset_terms.proofs.Makers.{agreed-of, and-both, not-true, wanted}
 use Rattle.multiset_terms.proofs.Nodes.{sum-agrees}
 use Rattle.multiset_terms.proofs.Pieces.{AreValues, IsNode, few, gross-told, light, node-counted, products-told, some-use, sums-told, support-told, values-known, verdict-node}
-use Rattle.multiset_terms.proofs.SameSort.{sort-told}
+use Rattle.colour_sorts.proofs.SameSort.{sort-told}
 use Rattle.multiset_terms.proofs.TupleNodes.{tuple-nodes-agree}
 use Rattle.multiset_terms.proofs.ValueLaws.{reading-Product, reading-Sum}
 

@@ -11,15 +11,15 @@ use Rattle.colour_sorts.specs.declared.sorts.Sort.{Sort, fold-roll-Sort}
 use Rattle.colour_sorts.specs.declared.sorts.Sort.TheOpen as open_sort
 use Rattle.colour_sorts.specs.declared.sorts.Sort.TheVariants as sort
 use Rattle.colour_sorts.specs.Colours.{colours_of_parts}
-use Rattle.colour_sorts.specs.Naming.{constants_of}
+use Rattle.net_model.specs.Ids.{constants_of}
 use Rattle.colour_sorts.proofs.PlacesIn.{none-is-some}
 use Rattle.multiset_terms.specs.declared.kinds.Kind.{Kind}
 use Rattle.multiset_terms.specs.declared.kinds.Kind.TheVariants as kind
 use Rattle.multiset_terms.specs.declared.parts.Part.{Part}
 use Rattle.multiset_terms.specs.declared.parts.Totals.{Totals}
-use Rattle.multiset_terms.specs.declared.terms.Term.{Term}
-use Rattle.multiset_terms.specs.declared.terms.Term.TheOpen as layer
-use Rattle.multiset_terms.specs.declared.terms.Term.TheVariants as term
+use Rattle.net_model.specs.declared.terms.Term.{Term}
+use Rattle.net_model.specs.declared.terms.Term.TheOpen as layer
+use Rattle.net_model.specs.declared.terms.Term.TheVariants as term
 use Rattle.multiset_terms.specs.declared.trees.Tree.{Tree, fold-roll-Tree}
 use Rattle.multiset_terms.specs.declared.trees.Tree.TheOpen as open_tree
 use Rattle.multiset_terms.specs.declared.trees.Tree.TheVariants as tree
@@ -29,18 +29,19 @@ use Rattle.multiset_terms.specs.Kinds.{block_kind_by}
 use Rattle.multiset_terms.specs.Parts.{AreDistinct, HasKind, IsPart, Piece, heavy_over, told, totals_of, with_part}
 use Rattle.multiset_terms.specs.Standing.{StandsFor, occurs, occurs_part}
 use Rattle.multiset_terms.specs.Trees.{Reading, most, most_colours, reading, reading_of_parts, uses_at, uses_part}
-use Rattle.multiset_terms.specs.Typing.{at_place, at_root, block_kind, block_kind_at, is_block, is_cyclic, is_same_sort, judged, judged_part, node, partition_place, partition_sort, sort_of_kind, step_kind, sum_kind, wants}
+use Rattle.multiset_terms.specs.Typing.{at_place, at_root, block_kind, block_kind_at, is_block, is_cyclic, judged, judged_part, node, partition_place, partition_sort, sort_of_kind, step_kind, sum_kind, wants}
 use Rattle.colour_sorts.specs.Dividing.{block_with}
+use Rattle.colour_sorts.specs.Comparing.{is_same_sort}
 use Rattle.multiset_terms.specs.Values.{Binding, Meaning, blocks_at, colours_of, meaning, meaning_part, one_block}
 use Rattle.multiset_terms.specs.Weights.{weighed, weighed_node, weighed_part}
 use Rattle.multiset_terms.specs.Laws.{IsOnce}
 use Rattle.multiset_terms.proofs.Blocks.{block-with, partition-known}
 use Rattle.multiset_terms.proofs.Distinct.{once-sort}
-use Rattle.multiset_terms.proofs.Layers.{fold-BlockOf, fold-NumberOf, fold-Predecessor, fold-Scalar, fold-Subtract, fold-Successor}
+use Rattle.net_model.proofs.Layers.{fold-BlockOf, fold-NumberOf, fold-Predecessor, fold-Scalar, fold-Subtract, fold-Successor}
 use Rattle.multiset_terms.proofs.Nodes.{difference-agrees, nodes-agree, times-agree}
 use Rattle.multiset_terms.proofs.Pieces.{IsNode, few, gross-told, light, min-times, node-counted, sums-told, support-told, totals-snoc, values-known, verdict-node}
 use Rattle.multiset_terms.proofs.Readings.{reading-Before, reading-Next}
-use Rattle.multiset_terms.proofs.SameSort.{sort-told}
+use Rattle.colour_sorts.proofs.SameSort.{sort-told}
 use Rattle.multiset_terms.proofs.ValueLaws.{reading-Minus, reading-Times}
 
 abbrev pub one : Term → Part → List Piece
@@ -422,4 +423,7 @@ stands-for ctx marking t p s block known light sorts blocks = record {
       let value = known.values b indices binds light in
       subst (λ z. IsAgreed (colours_of ctx z) (meaning ctx b t) (reading indices p.tree)) (sym sorts)
       (agreed-of ctx p.block p.kind (meaning ctx b t) (reading indices p.tree) (sym blocks ∙ no) value.of_kind);
+  weights = λ b indices binds no. (known.values b indices binds light).weight (sym blocks ∙ no) ∙ same-gross (weighed ctx t).gross p.gross known.counted.gross_total (known.counted.light light);
+  light = let few = known.counted.light light in omega (arith, few);
+  limit = λ no. let size = ap (λ z. length (colours_of ctx z)) sorts in let counted = known.size in let few = known.limit in omega (arith, size, counted, few);
 }

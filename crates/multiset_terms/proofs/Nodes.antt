@@ -10,7 +10,7 @@ use Rattle.std.proofs.lemmas.Option.{slice_get_within, slice_get-get_or}
 use Rattle.colour_sorts.specs.declared.sorts.Colour.{Colour}
 use Rattle.colour_sorts.specs.declared.sorts.Colour.TheVariants as colours
 use Rattle.colour_sorts.specs.Places.{before_of, next_of}
-use Rattle.multiset_terms.specs.declared.terms.Term.TheOpen as written
+use Rattle.net_model.specs.declared.terms.Term.TheOpen as written
 use Rattle.multiset_terms.specs.declared.trees.Tree.TheOpen as tree
 use Rattle.multiset_terms.specs.Agreeing.{AreAgreed, IsAgreed, IsOneColour, NodesAgree}
 use Rattle.multiset_terms.specs.Context.{Context}

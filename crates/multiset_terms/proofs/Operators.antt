@@ -18,29 +18,31 @@ use Rattle.colour_sorts.specs.declared.sorts.Declared.{Declared}
 use Rattle.colour_sorts.specs.declared.sorts.Declared.TheVariants as declared
 use Rattle.colour_sorts.specs.declared.sorts.Sort.{Sort}
 use Rattle.colour_sorts.specs.declared.sorts.Sort.TheVariants as sort
-use Rattle.colour_sorts.specs.declared.written.NamedSort.{NamedSort}
-use Rattle.colour_sorts.specs.declared.written.Partition.{Partition}
-use Rattle.colour_sorts.specs.declared.written.SortTerm.{SortTerm, out-SortTerm, map-SortTerm, roll-out-SortTerm, fold-roll-SortTerm}
-use Rattle.colour_sorts.specs.declared.written.SortTerm.TheOpen as layer
-use Rattle.colour_sorts.specs.declared.written.SortTerm.TheVariants as written
+use Rattle.net_model.specs.declared.sorts.NamedSort.{NamedSort}
+use Rattle.net_model.specs.declared.sorts.Partition.{Partition}
+use Rattle.net_model.specs.declared.sorts.SortTerm.{SortTerm, out-SortTerm, map-SortTerm, roll-out-SortTerm, fold-roll-SortTerm}
+use Rattle.net_model.specs.declared.sorts.SortTerm.TheOpen as layer
+use Rattle.net_model.specs.declared.sorts.SortTerm.TheVariants as written
 use Rattle.colour_sorts.specs.Calls.{declared_in, group_of, place_in, sort_at}
 use Rattle.colour_sorts.specs.Colours.{colours, colours_of_parts, constants_at, size}
-use Rattle.colour_sorts.specs.Domain.{Domain, before, element_ids, fault_at, Fault, first_fault, sort_fault_from}
+use Rattle.net_model.specs.Ids.{constants_in, constants_in_layer, constants_of, element_ids}
+use Rattle.colour_sorts.specs.Domain.{Domain, before, fault_at, Fault, first_fault, sort_fault_from}
 use Rattle.colour_sorts.specs.Domain as domains
 use Rattle.colour_sorts.specs.Held.{IsEnumeration}
-use Rattle.colour_sorts.specs.Naming.{broken_rule, constants_in, constants_in_layer, constants_of, sort_by, sort_by_part, sort_of, term_at}
-use Rattle.colour_sorts.specs.declared.written.Span.{Span}
+use Rattle.colour_sorts.specs.Naming.{broken_rule, sort_by, sort_by_part, sort_of, term_at}
+use Rattle.net_model.specs.declared.sorts.Span.{Span}
 use Rattle.colour_sorts.specs.Colours.{span_numbers}
 use Rattle.colour_sorts.specs.Places.{IsPlace}
 use Rattle.colour_sorts.proofs.Folds.{Number-injective}
-use Rattle.colour_sorts.proofs.Layers.{at-Cyclic, at-Listed, at-Range, term-Range}
+use Rattle.net_model.proofs.Layers.{term-Range}
+use Rattle.colour_sorts.proofs.Layers.{at-Cyclic, at-Listed, at-Range}
 use Rattle.colour_sorts.proofs.Members.{number-place}
 use Rattle.colour_sorts.proofs.PlacesIn.{slice_get-mapped}
 use Rattle.colour_sorts.proofs.Resolved.{sorts_from-at}
 use Rattle.colour_sorts.proofs.Sizes.{unbroken-size}
 use Rattle.colour_sorts.proofs.Walks.{constants-at, term-at}
 use Rattle.multiset_terms.specs.declared.kinds.Kind.TheVariants as kind
-use Rattle.multiset_terms.specs.declared.terms.Term.TheVariants as term
+use Rattle.net_model.specs.declared.terms.Term.TheVariants as term
 use Rattle.multiset_terms.specs.Context.{Context, Declarations}
 use Rattle.multiset_terms.specs.declared.faults.PartFault.{PartFault}
 use Rattle.multiset_terms.specs.declared.faults.PartFault.TheVariants as fault
@@ -52,7 +54,7 @@ use Rattle.multiset_terms.specs.Values.{colours_of, element_at, meaning_part, on
 use Rattle.multiset_terms.specs.Weights.{weighed_part}
 use Rattle.multiset_terms.proofs.Asked.{unbroken}
 use Rattle.multiset_terms.proofs.Blocks.{element-position}
-use Rattle.multiset_terms.proofs.Layers.{fold-Number, fold-Operator}
+use Rattle.net_model.proofs.Layers.{fold-Number, fold-Operator}
 use Rattle.multiset_terms.proofs.LeafMakers.{placed}
 
 -- the constant or the element that an id is found as

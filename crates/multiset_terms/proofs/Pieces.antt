@@ -14,7 +14,7 @@ use Rattle.multiset_terms.specs.declared.kinds.Kind.{Kind}
 use Rattle.multiset_terms.specs.declared.parts.Children.{Children}
 use Rattle.multiset_terms.specs.declared.parts.Part.{Part}
 use Rattle.multiset_terms.specs.declared.parts.Totals.{Totals}
-use Rattle.multiset_terms.specs.declared.terms.Term.{Term}
+use Rattle.net_model.specs.declared.terms.Term.{Term}
 use Rattle.multiset_terms.specs.declared.trees.Tree.{Tree}
 use Rattle.multiset_terms.specs.Context.{Context}
 use Rattle.multiset_terms.specs.Parts.{AreParts, IsCounted, IsPart, PartValue, Piece, behind, children_of, either, first_size, heavy_over, heavy_part, kinds_of, terms_of, told, totals_of, with_child, with_part}

@@ -8,17 +8,19 @@ use Rattle.colour_sorts.specs.declared.rules.Rule.{Rule}
 use Rattle.colour_sorts.specs.declared.rules.Rule.TheVariants as rule
 use Rattle.colour_sorts.specs.declared.sorts.Colour.TheVariants as colour
 use Rattle.colour_sorts.specs.declared.sorts.Sort.TheVariants as sort
-use Rattle.colour_sorts.specs.declared.written.SortTerm.TheVariants as written
+use Rattle.net_model.specs.declared.sorts.SortTerm.TheVariants as written
 use Rattle.colour_sorts.specs.Dividing.{block_with}
 use Rattle.colour_sorts.specs.Limits.{passes_limit}
-use Rattle.colour_sorts.specs.Naming.{broken_rule, constants_of}
+use Rattle.net_model.specs.Ids.{constants_of}
+use Rattle.colour_sorts.specs.Naming.{broken_rule}
+use Rattle.colour_sorts.specs.Comparing.{is_same_sort}
 use Rattle.multiset_terms.specs.declared.kinds.Kind.{Kind}
 use Rattle.multiset_terms.specs.declared.kinds.Kind.TheVariants as kind
-use Rattle.multiset_terms.specs.declared.terms.Term.{Term, map-Term, out-Term, roll-out-Term, fold-roll-Term}
-use Rattle.multiset_terms.specs.declared.terms.Term.TheOpen as layer
+use Rattle.net_model.specs.declared.terms.Term.{Term, map-Term, out-Term, roll-out-Term, fold-roll-Term}
+use Rattle.net_model.specs.declared.terms.Term.TheOpen as layer
 use Rattle.multiset_terms.specs.Context.{Context}
 use Rattle.multiset_terms.specs.Typing as typing
-use Rattle.multiset_terms.specs.Typing.{Broken, Judged, at_place, at_root, block_kind_at, children, constant_place, element_place, is_block, is_choice, is_colour, is_cyclic, is_same_sort, judged, judged_part, looked_at, partition_place, partition_sort, product_of, sort_named, sort_of_kind, step_kind, sum_kind, tuple_kind, type_of, unless_broken, variable_sort, wants}
+use Rattle.multiset_terms.specs.Typing.{Broken, Judged, at_place, at_root, block_kind_at, children, constant_place, element_place, is_block, is_choice, is_colour, is_cyclic, judged, judged_part, looked_at, partition_place, partition_sort, product_of, sort_named, sort_of_kind, step_kind, sum_kind, tuple_kind, type_of, unless_broken, variable_sort, wants}
 use Rattle.multiset_terms.specs.Values.{Binding, Meaning, blocks_at, element_at, meaning, meaning_part, one_block, one_colour}
 
 pub record IsApart (k : Kind) (m : Meaning) : Type 0 where

@@ -10,8 +10,8 @@ use Rattle.name_tables.proofs.Places.{position_some}
 use Rattle.colour_sorts.specs.declared.sorts.Colour.TheVariants as colour
 use Rattle.colour_sorts.specs.Colours.{constants_at}
 use Rattle.colour_sorts.specs.Domain as domains
-use Rattle.colour_sorts.specs.Groups.{names_in}
-use Rattle.colour_sorts.specs.Naming.{constants_of}
+use Rattle.net_model.specs.Ids as own_ids
+use Rattle.net_model.specs.Ids.{constants_of, names_in}
 use Rattle.colour_sorts.proofs.Constants.{number_in-only}
 use Rattle.colour_sorts.proofs.Grouped.{left-get, names-split, place-any, right-get}
 use Rattle.multiset_terms.specs.Bindings.{AreInRange, binding_of}
@@ -50,7 +50,7 @@ once-group groups at once i j x first second = decide (cases_lt at (length group
         let short = slice_get_within [] i x (subst (λ l. slice_get l i ≡ Some x) none first) in
         omega (arith, short)
 
-pub built-scope : (ctx : Context) (domain : domains.Domain) → domains.StandsFor domain ctx.sorts ctx.partitions → domains.AreDistinct ctx.sorts ctx.partitions → IsDistinct bytes_eq ctx.variables.ids
+pub built-scope : (ctx : Context) (domain : domains.Domain) → domains.StandsFor domain ctx.sorts ctx.partitions → own_ids.AreDistinct ctx.sorts ctx.partitions → IsDistinct bytes_eq ctx.variables.ids
     → IsScope ctx domain ctx.variables
 built-scope ctx domain stands apart ids = record {
   domain = stands;

@@ -10,7 +10,7 @@ use Rattle.colour_sorts.specs.declared.sorts.Colour.TheOpen as layer
 use Rattle.colour_sorts.specs.Colours.{tuple, tuples}
 use Rattle.colour_sorts.proofs.PlacesIn.{slice_get-mapped}
 use Rattle.colour_sorts.proofs.Tuples.{length-tuples, place-tuples}
-use Rattle.multiset_terms.specs.declared.terms.Term.TheOpen as written
+use Rattle.net_model.specs.declared.terms.Term.TheOpen as written
 use Rattle.multiset_terms.specs.Agreeing.{AreChoices, AreOneColours, IsOneColour, TupleNodesAgree}
 use Rattle.multiset_terms.specs.Context.{Context}
 use Rattle.multiset_terms.specs.Laws.{AreComponents, IsOnce}

@@ -3,7 +3,7 @@ use Rattle.std.specs.Prelude.{◌≡◌, ◌+◌, ◌*◌, ◌<◌, ◌≤◌, s
 use Rattle.colour_sorts.specs.declared.sorts.Sort.{Sort}
 use Rattle.colour_sorts.specs.declared.sorts.Colour.{Colour}
 use Rattle.colour_sorts.specs.Colours.{tuple, tuples}
-use Rattle.multiset_terms.specs.declared.terms.Term.TheOpen as written
+use Rattle.net_model.specs.declared.terms.Term.TheOpen as written
 use Rattle.multiset_terms.specs.declared.trees.Tree.TheOpen as tree
 use Rattle.multiset_terms.specs.Context.{Context}
 use Rattle.multiset_terms.specs.Trees.{Reading, choices, gross_sum, most, reading_of_parts}

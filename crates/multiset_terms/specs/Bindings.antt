@@ -4,6 +4,7 @@ use Rattle.std.specs.Str.{bytes_eq}
 use Rattle.std.specs.List.{IsDistinct}
 use Rattle.colour_sorts.specs.declared.sorts.Colour.TheVariants as colour
 use Rattle.colour_sorts.specs.Domain as domains
+use Rattle.net_model.specs.Ids.{AreDistinct}
 use Rattle.multiset_terms.specs.Context.{Context}
 use Rattle.multiset_terms.specs.Laws.{IsOnce}
 use Rattle.multiset_terms.specs.Parts.{IsScope}
@@ -22,7 +23,7 @@ binding_of ctx indices id = at_place colour.Dot (λ at. slice_index_or (colours_
 
 -- distinct declarations that are built, and variables of distinct ids, are a scope
 abbrev pub BuiltAreAScope : Type 0
-BuiltAreAScope = (ctx : Context) (domain : domains.Domain) → domains.StandsFor domain ctx.sorts ctx.partitions → domains.AreDistinct ctx.sorts ctx.partitions → IsDistinct bytes_eq ctx.variables.ids
+BuiltAreAScope = (ctx : Context) (domain : domains.Domain) → domains.StandsFor domain ctx.sorts ctx.partitions → AreDistinct ctx.sorts ctx.partitions → IsDistinct bytes_eq ctx.variables.ids
     → IsScope ctx domain ctx.variables
 
 -- indices in range bind

@@ -5,10 +5,10 @@ use Rattle.colour_sorts.specs.Calls.{blocks_at}
 use Rattle.colour_sorts.specs.Domain.{Domain}
 use Rattle.multiset_terms.specs.declared.conditions.BlockTree.{BlockTree}
 use Rattle.multiset_terms.specs.declared.conditions.BlockTree.TheVariants as block
-use Rattle.multiset_terms.specs.declared.terms.Order.{Order}
-use Rattle.multiset_terms.specs.declared.terms.Order.TheVariants as order
-use Rattle.multiset_terms.specs.declared.conditions.Condition.{Condition, fold-Condition}
-use Rattle.multiset_terms.specs.declared.conditions.Condition.TheOpen.{Condition-F, Constant, And, Or, Not, Imply, Compare, CompareBlocks}
+use Rattle.net_model.specs.declared.terms.Order.{Order}
+use Rattle.net_model.specs.declared.terms.Order.TheVariants as order
+use Rattle.multiset_terms.specs.declared.conditions.CGuard.{CGuard, fold-CGuard}
+use Rattle.multiset_terms.specs.declared.conditions.CGuard.TheOpen.{CGuard-F, Constant, And, Or, Not, Imply, Compare, CompareBlocks}
 use Rattle.multiset_terms.specs.Trees.{are_colours, reading, uses_at}
 
 abbrev pub compares : Order → ℕ → ℕ → Bool
@@ -46,7 +46,7 @@ all_true vs = list_all (λ v. v.is_true) vs
 abbrev pub any_true : List Verdict → Bool
 any_true vs = list_any (λ v. v.is_true) vs
 
-abbrev pub verdict_of_parts : Domain → List ℕ → Condition-F Verdict → Verdict
+abbrev pub verdict_of_parts : Domain → List ℕ → CGuard-F Verdict → Verdict
 verdict_of_parts domain binding (Constant value) = record { is_true = value; is_fit = true }
 verdict_of_parts domain binding (And vs) = record { is_true = all_true vs; is_fit = are_fit vs }
 verdict_of_parts domain binding (Or vs) = record { is_true = any_true vs; is_fit = are_fit vs }
@@ -61,10 +61,10 @@ verdict_of_parts domain binding (CompareBlocks same partition a b) = record {
   is_fit = is_block_fit domain partition binding a && is_block_fit domain partition binding b;
 }
 
-abbrev pub verdict : Domain → List ℕ → Condition → Verdict
-verdict domain binding condition = fold-Condition Verdict (verdict_of_parts domain binding) condition
+abbrev pub verdict : Domain → List ℕ → CGuard → Verdict
+verdict domain binding condition = fold-CGuard Verdict (verdict_of_parts domain binding) condition
 
-abbrev pub verdicts : Domain → List ℕ → List Condition → List Verdict
+abbrev pub verdicts : Domain → List ℕ → List CGuard → List Verdict
 verdicts domain binding conditions = map (verdict domain binding) conditions
 
 -- whether the variable of a number occurs
@@ -72,7 +72,7 @@ abbrev pub block_uses_at : ℕ → BlockTree → Bool
 block_uses_at variable (block.Element _) = false
 block_uses_at variable (block.With tree) = uses_at variable tree
 
-abbrev pub condition_uses_part : ℕ → Condition-F Bool → Bool
+abbrev pub condition_uses_part : ℕ → CGuard-F Bool → Bool
 condition_uses_part variable (Constant _) = false
 condition_uses_part variable (And parts) = list_any (λ part. part) parts
 condition_uses_part variable (Or parts) = list_any (λ part. part) parts
@@ -81,8 +81,8 @@ condition_uses_part variable (Imply first second) = first || second
 condition_uses_part variable (Compare _ first second) = uses_at variable first || uses_at variable second
 condition_uses_part variable (CompareBlocks _ _ first second) = block_uses_at variable first || block_uses_at variable second
 
-abbrev pub condition_uses_at : ℕ → Condition → Bool
-condition_uses_at variable condition = fold-Condition Bool (condition_uses_part variable) condition
+abbrev pub condition_uses_at : ℕ → CGuard → Bool
+condition_uses_at variable condition = fold-CGuard Bool (condition_uses_part variable) condition
 
-abbrev pub some_condition_uses : ℕ → List Condition → Bool
+abbrev pub some_condition_uses : ℕ → List CGuard → Bool
 some_condition_uses variable conditions = list_any (λ part. part) (map (condition_uses_at variable) conditions)

@@ -1,7 +1,7 @@
 -- What terms and guards stand over: the declared sorts, partitions and variables.
 use Rattle.std.specs.Prelude.{ℕ, List}
-use Rattle.colour_sorts.specs.declared.written.NamedSort.{NamedSort}
-use Rattle.colour_sorts.specs.declared.written.Partition.{Partition}
+use Rattle.net_model.specs.declared.sorts.NamedSort.{NamedSort}
+use Rattle.net_model.specs.declared.sorts.Partition.{Partition}
 use Rattle.colour_sorts.specs.declared.sorts.Sort.{Sort}
 
 -- the ids of the variables and the sort of each

@@ -1,27 +1,26 @@
 -- What a compiled part of a guard stands for, while a guard is compiled.
-use Rattle.std.specs.Prelude.{◌≡◌, ℕ, suc, Bool, true, false, List, [], ◌∷◌, map, sum_by, Option, None, Some, Result, Ok, Err}
+use Rattle.std.specs.Prelude.{◌≡◌, ◌<◌, ◌^◌, ℕ, suc, Bool, true, false, List, [], ◌∷◌, map, sum_by, Option, None, Some, Result, Ok, Err}
 use Rattle.std.specs.List.{AllByRecursion}
 use Rattle.multiset_terms.specs.declared.conditions.BlockTree.{BlockTree}
 use Rattle.multiset_terms.specs.declared.conditions.BlockTree.TheVariants as block
-use Rattle.multiset_terms.specs.declared.terms.Order.{Order}
-use Rattle.multiset_terms.specs.declared.terms.Order.TheVariants as order
+use Rattle.net_model.specs.declared.terms.Order.{Order}
+use Rattle.net_model.specs.declared.terms.Order.TheVariants as order
 use Rattle.multiset_terms.specs.declared.trees.Tree.{Tree}
-use Rattle.multiset_terms.specs.declared.compiled.CGuard.{CGuard}
-use Rattle.multiset_terms.specs.declared.conditions.Condition.{Condition}
+use Rattle.multiset_terms.specs.declared.conditions.CGuard.{CGuard}
 use Rattle.multiset_terms.specs.declared.faults.PartFault.{PartFault}
 use Rattle.multiset_terms.specs.declared.faults.TermFault.{TermFault}
 use Rattle.multiset_terms.specs.declared.faults.TermFault.TheVariants as term_fault
 use Rattle.multiset_terms.specs.declared.guards.GuardPart.{GuardPart}
 use Rattle.multiset_terms.specs.declared.guards.GuardParts.{GuardParts}
-use Rattle.multiset_terms.specs.declared.terms.Guard.{Guard}
+use Rattle.net_model.specs.declared.terms.Guard.{Guard}
 use Rattle.multiset_terms.specs.Context.{Context}
 use Rattle.multiset_terms.specs.Parts.{IsFault}
 use Rattle.multiset_terms.specs.Standing.{GuardStandsFor}
 use Rattle.multiset_terms.specs.Typing.{children, judged_guard, type_of_guard}
 
 -- a condition stands for a guard
-abbrev pub IsCondition : Context → Guard → Condition → Type 0
-IsCondition ctx g c = GuardStandsFor ctx g (record { condition = c })
+abbrev pub IsCondition : Context → Guard → CGuard → Type 0
+IsCondition ctx g c = GuardStandsFor ctx g c
 
 pub record IsGuardPart (ctx : Context) (g : Guard) (p : GuardPart) : Type 0 where
   pub typed : type_of_guard ctx g ≡ Ok tt
@@ -33,7 +32,7 @@ abbrev pub IsGuardAnswer : Context → Guard → Result GuardPart PartFault → 
 IsGuardAnswer ctx g (Ok part) = IsGuardPart ctx g part
 IsGuardAnswer ctx g (Err found) = IsFault found (type_of_guard ctx g)
 
-abbrev pub AreConditions : Context → List Guard → List Condition → Type 0
+abbrev pub AreConditions : Context → List Guard → List CGuard → Type 0
 AreConditions ctx [] [] = Unit {0}
 AreConditions ctx (g ∷ gs) (c ∷ cs) = IsCondition ctx g c × AreConditions ctx gs cs
 AreConditions ctx _ _ = ⊥
@@ -42,6 +41,7 @@ AreConditions ctx _ _ = ⊥
 pub record AreGuardParts (ctx : Context) (gs : List Guard) (ps : GuardParts) : Type 0 where
   pub typed : AllByRecursion (λ g. type_of_guard ctx g ≡ Ok tt) gs
   pub nodes : suc (sum_by (λ j. j.nodes) (map (judged_guard ctx) gs)) ≡ ps.nodes
+  pub few : ps.nodes < 2 ^ 32
   pub standing : AreConditions ctx gs ps.conditions
 
 abbrev pub AreGuardAnswers : Context → List Guard → Result GuardParts PartFault → Type 0

@@ -1,11 +1,11 @@
 -- Instances of the definitions that were worked out by hand.
 use Rattle.std.specs.Prelude.{◌≡◌, ◌-◌, ◌^◌, true, false, [], ◌∷◌, codes, Some, None, Err, if◌then◌else◌}
 use Rattle.colour_sorts.specs.declared.rules.Rule.TheVariants as rule
-use Rattle.colour_sorts.specs.declared.written.SortTerm.TheVariants as written
+use Rattle.net_model.specs.declared.sorts.SortTerm.TheVariants as written
 use Rattle.colour_sorts.specs.declared.sorts.Sort.TheVariants as sort
 use Rattle.colour_sorts.specs.declared.sorts.Colour.{Colour}
-use Rattle.multiset_terms.specs.declared.terms.Term.{Term}
-use Rattle.multiset_terms.specs.declared.terms.Term.TheVariants as term
+use Rattle.net_model.specs.declared.terms.Term.{Term}
+use Rattle.net_model.specs.declared.terms.Term.TheVariants as term
 use Rattle.multiset_terms.specs.Context.{Context}
 use Rattle.multiset_terms.specs.Typing.{type_of}
 use Rattle.multiset_terms.specs.Values.{Binding, den, is_same}

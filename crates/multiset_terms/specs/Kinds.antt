@@ -5,9 +5,10 @@ use Rattle.colour_sorts.specs.declared.rules.Rule.{Rule}
 use Rattle.colour_sorts.specs.declared.rules.Rule.TheVariants as rule
 use Rattle.colour_sorts.specs.declared.sorts.Sort.{Sort, roll-Sort}
 use Rattle.colour_sorts.specs.declared.sorts.Sort.TheOpen as layer
+use Rattle.colour_sorts.specs.Comparing.{is_same_sort}
 use Rattle.multiset_terms.specs.declared.kinds.Kind.{Kind}
 use Rattle.multiset_terms.specs.declared.kinds.Kind.TheVariants as kind
-use Rattle.multiset_terms.specs.Typing.{is_same_sort, wants}
+use Rattle.multiset_terms.specs.Typing.{wants}
 
 -- a sum of children that are no blocks, or of which some are
 abbrev pub sum_kind_by : Bool → List Sort → Result Kind Rule

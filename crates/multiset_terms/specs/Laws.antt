@@ -8,15 +8,11 @@ use Rattle.colour_sorts.specs.Places.{before_of, next_of}
 use Rattle.multiset_terms.specs.Agreeing.{NodesAgree, TupleNodesAgree}
 use Rattle.multiset_terms.specs.Context.{Context}
 use Rattle.multiset_terms.specs.Trees.{Reading, most_colours, once, product_count}
-use Rattle.multiset_terms.specs.Typing.{is_same_sort}
 use Rattle.multiset_terms.specs.Values.{Binding, Meaning, counts_at, is_same, place_in, stepped}
 
 -- the test is true of two colours exactly where they are the same
 abbrev pub ColoursAreToldApart : Type 0
 ColoursAreToldApart = (a b : Colour) → Decides (is_same a b) (a ≡ b)
-
-abbrev pub SortsAreToldApart : Type 0
-SortsAreToldApart = (a b : Sort) → Decides (is_same_sort a b) (a ≡ b)
 
 -- a list in which each value stands at one place
 abbrev pub IsOnce : {X : Type 0} → List X → Type 0

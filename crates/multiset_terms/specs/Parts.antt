@@ -4,13 +4,14 @@ use Rattle.std.specs.List.{list_all}
 use Rattle.colour_sorts.specs.declared.sorts.Colour.{Colour}
 use Rattle.colour_sorts.specs.declared.sorts.Sort.{Sort}
 use Rattle.colour_sorts.specs.Colours.{constants_at, size}
-use Rattle.colour_sorts.specs.declared.written.NamedSort.{NamedSort}
-use Rattle.colour_sorts.specs.declared.written.Partition.{Partition}
+use Rattle.net_model.specs.declared.sorts.NamedSort.{NamedSort}
+use Rattle.net_model.specs.declared.sorts.Partition.{Partition}
 use Rattle.colour_sorts.specs.Calls.{blocks_at}
 use Rattle.colour_sorts.specs.Domain.{Domain, domain_of}
 use Rattle.colour_sorts.specs.Domain as domains
-use Rattle.colour_sorts.specs.declared.written.SortTerm.{SortTerm}
-use Rattle.colour_sorts.specs.Naming.{broken_rule, constants_of}
+use Rattle.net_model.specs.declared.sorts.SortTerm.{SortTerm}
+use Rattle.net_model.specs.Ids.{constants_of}
+use Rattle.colour_sorts.specs.Naming.{broken_rule}
 use Rattle.multiset_terms.specs.declared.asking.Found.{Found}
 use Rattle.multiset_terms.specs.declared.faults.PartFault.{PartFault}
 use Rattle.multiset_terms.specs.declared.faults.PartFault.TheVariants as fault
@@ -22,7 +23,7 @@ use Rattle.multiset_terms.specs.declared.kinds.Kind.TheVariants as kind
 use Rattle.multiset_terms.specs.declared.parts.Children.{Children}
 use Rattle.multiset_terms.specs.declared.parts.Part.{Part}
 use Rattle.multiset_terms.specs.declared.parts.Totals.{Totals}
-use Rattle.multiset_terms.specs.declared.terms.Term.{Term}
+use Rattle.net_model.specs.declared.terms.Term.{Term}
 use Rattle.multiset_terms.specs.Agreeing.{IsAgreed, IsChoice, IsOneColour}
 use Rattle.multiset_terms.specs.declared.trees.Tree.{Tree}
 use Rattle.multiset_terms.specs.declared.trees.Tree.TheVariants as tree

@@ -162,19 +162,6 @@ uses_at variable tree = fold-Tree Bool (uses_part variable) tree
 abbrev pub some_use : ℕ → List Tree → Bool
 some_use variable trees = list_any (λ part. part) (map (uses_at variable) trees)
 
--- a row that is the value of a reading, and one that is the sum of some
-pub record HasValue (r : Reading) (row : List Cell) : Type 0 where
-  pub defined : r.is_defined ≡ true
-  pub counts : (p : ℕ) → amount p row ≡ r.count p
-  pub elements : total row ≤ r.gross
-  pub inside : AreBelow r.size row
-
-pub record HasSum (rs : List Reading) (row : List Cell) : Type 0 where
-  pub defined : are_defined rs ≡ true
-  pub counts : (p : ℕ) → amount p row ≡ count_sum rs p
-  pub elements : total row ≤ gross_sum rs
-  pub inside : (size : ℕ) → are_of_size size rs ≡ true → AreBelow size row
-
 -- a row of all tuples of the choices
 pub record HasTuples (rs : List Reading) (row : List Cell) : Type 0 where
   pub counts : (p : ℕ) → amount p row ≡ product_count rs p

@@ -2,47 +2,28 @@
 -- this project's own.
 use Rattle.std.specs.Prelude.{ℕ, suc, ◌+◌, Bool, true, false, not, ◌&&◌, ◌||◌, nat_eq, List, [], ◌∷◌, map, ℤ, int_le, Option, None, Some, Result, Ok, Err, position, if◌then◌else◌, slice_index_or, sum_by}
 use Rattle.std.specs.List.{list_all, list_any}
-use Rattle.std.specs.Ordering.{int_eq}
 use Rattle.std.specs.Str.{bytes_eq}
 use Rattle.colour_sorts.specs.declared.rules.Rule.{Rule}
 use Rattle.colour_sorts.specs.declared.rules.Rule.TheVariants as rule
-use Rattle.colour_sorts.specs.declared.written.Span.{Span}
-use Rattle.colour_sorts.specs.declared.written.SortTerm.{SortTerm}
-use Rattle.colour_sorts.specs.declared.written.SortTerm.TheVariants as written
-use Rattle.colour_sorts.specs.declared.sorts.Sort.{Sort, fold-Sort, out-Sort, roll-Sort}
+use Rattle.net_model.specs.declared.sorts.Span.{Span}
+use Rattle.net_model.specs.declared.sorts.SortTerm.{SortTerm}
+use Rattle.net_model.specs.declared.sorts.SortTerm.TheVariants as written
+use Rattle.colour_sorts.specs.declared.sorts.Sort.{Sort, out-Sort, roll-Sort}
 use Rattle.colour_sorts.specs.declared.sorts.Sort.TheOpen as layer
 use Rattle.colour_sorts.specs.declared.sorts.Sort.TheVariants as sort
+use Rattle.colour_sorts.specs.Comparing.{is_same_sort}
 use Rattle.colour_sorts.specs.Limits.{passes_limit}
-use Rattle.colour_sorts.specs.Naming.{broken_rule, constants_of, sort_of, term_at}
+use Rattle.net_model.specs.Ids.{constants_of}
+use Rattle.colour_sorts.specs.Naming.{broken_rule, sort_of, term_at}
 use Rattle.multiset_terms.specs.declared.kinds.Kind.{Kind}
 use Rattle.multiset_terms.specs.declared.kinds.Kind.TheVariants.{Colour, Every, Multiset, Block}
-use Rattle.multiset_terms.specs.declared.terms.Order.{Order}
-use Rattle.multiset_terms.specs.declared.terms.Order.TheVariants as order
-use Rattle.multiset_terms.specs.declared.terms.Term.{Term, fold-Term}
-use Rattle.multiset_terms.specs.declared.terms.Term.TheOpen.{Term-F, Variable, Operator, Dot, Number, Successor, Predecessor, Tuple, All, Empty, NumberOf, Scalar, Add, Subtract, BlockOf}
-use Rattle.multiset_terms.specs.declared.terms.Guard.{Guard, fold-Guard}
-use Rattle.multiset_terms.specs.declared.terms.Guard.TheOpen as guard
+use Rattle.net_model.specs.declared.terms.Order.{Order}
+use Rattle.net_model.specs.declared.terms.Order.TheVariants as order
+use Rattle.net_model.specs.declared.terms.Term.{Term, fold-Term}
+use Rattle.net_model.specs.declared.terms.Term.TheOpen.{Term-F, Variable, Operator, Dot, Number, Successor, Predecessor, Tuple, All, Empty, NumberOf, Scalar, Add, Subtract, BlockOf}
+use Rattle.net_model.specs.declared.terms.Guard.{Guard, fold-Guard}
+use Rattle.net_model.specs.declared.terms.Guard.TheOpen as guard
 use Rattle.multiset_terms.specs.Context.{Context}
-
--- whether two sorts are the same
-abbrev pub all_same : List (Sort → Bool) → List Sort → Bool
-all_same [] [] = true
-all_same (test ∷ tests) (s ∷ more) = test s && all_same tests more
-all_same _ _ = false
-
-abbrev pub is_same_layer : layer.Sort-F (Sort → Bool) → layer.Sort-F Sort → Bool
-is_same_layer layer.Dot layer.Dot = true
-is_same_layer (layer.Listed at) (layer.Listed other) = nat_eq at other
-is_same_layer (layer.Cyclic at) (layer.Cyclic other) = nat_eq at other
-is_same_layer (layer.Range span) (layer.Range other) = int_eq span.first other.first && int_eq span.last other.last
-is_same_layer (layer.Product tests) (layer.Product parts) = all_same tests parts
-is_same_layer _ _ = false
-
-abbrev pub is_same_part : layer.Sort-F (Sort → Bool) → Sort → Bool
-is_same_part parts other = is_same_layer parts (out-Sort other)
-
-abbrev pub is_same_sort : Sort → Sort → Bool
-is_same_sort s = fold-Sort (Sort → Bool) is_same_part s
 
 -- whether the colours of a sort have an order, and whether it is a cyclic enumeration
 abbrev pub has_order_layer : {A : Type 0} → layer.Sort-F A → Bool

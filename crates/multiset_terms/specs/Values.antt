@@ -4,7 +4,7 @@ use Rattle.std.specs.Prelude.{ℕ, ◌-◌, ◌*◌, Bool, true, false, not, ◌
 use Rattle.std.specs.List.{list_all, list_any, position_or_len}
 use Rattle.std.specs.Ordering.{int_eq}
 use Rattle.std.specs.Str.{bytes_eq}
-use Rattle.colour_sorts.specs.declared.written.Block.{Block}
+use Rattle.net_model.specs.declared.sorts.Block.{Block}
 use Rattle.colour_sorts.specs.declared.sorts.Sort.{Sort, roll-Sort}
 use Rattle.colour_sorts.specs.declared.sorts.Sort.TheOpen as layer
 use Rattle.colour_sorts.specs.declared.sorts.Sort.TheVariants as sort
@@ -13,14 +13,14 @@ use Rattle.colour_sorts.specs.declared.sorts.Colour.TheOpen as open_colour
 use Rattle.colour_sorts.specs.declared.sorts.Colour.TheVariants as colour
 use Rattle.colour_sorts.specs.Colours.{colours, tuple}
 use Rattle.colour_sorts.specs.Dividing.{block_with}
-use Rattle.colour_sorts.specs.Naming.{constants_of}
+use Rattle.net_model.specs.Ids.{constants_of}
 use Rattle.colour_sorts.specs.Places.{next_of, before_of}
-use Rattle.multiset_terms.specs.declared.terms.Order.{Order}
-use Rattle.multiset_terms.specs.declared.terms.Order.TheVariants as order
-use Rattle.multiset_terms.specs.declared.terms.Term.{Term, fold-Term}
-use Rattle.multiset_terms.specs.declared.terms.Term.TheOpen.{Term-F, Variable, Operator, Dot, Number, Successor, Predecessor, Tuple, All, Empty, NumberOf, Scalar, Add, Subtract, BlockOf}
-use Rattle.multiset_terms.specs.declared.terms.Guard.{Guard, fold-Guard}
-use Rattle.multiset_terms.specs.declared.terms.Guard.TheOpen as guard
+use Rattle.net_model.specs.declared.terms.Order.{Order}
+use Rattle.net_model.specs.declared.terms.Order.TheVariants as order
+use Rattle.net_model.specs.declared.terms.Term.{Term, fold-Term}
+use Rattle.net_model.specs.declared.terms.Term.TheOpen.{Term-F, Variable, Operator, Dot, Number, Successor, Predecessor, Tuple, All, Empty, NumberOf, Scalar, Add, Subtract, BlockOf}
+use Rattle.net_model.specs.declared.terms.Guard.{Guard, fold-Guard}
+use Rattle.net_model.specs.declared.terms.Guard.TheOpen as guard
 use Rattle.multiset_terms.specs.Context.{Context}
 use Rattle.multiset_terms.specs.Typing.{at_place, constant_place, element_place, partition_place, sort_at, sort_named, variable_sort}
 

@@ -1,9 +1,9 @@
 -- How many elements a term stands for at most, and at how many colours.
 use Rattle.std.specs.Prelude.{ℕ, suc, ◌+◌, ◌-◌, ◌*◌, ◌^◌, min, nat_lt, List, [], ◌∷◌, map, sum_by, Option, None, Some, if◌then◌else◌}
 use Rattle.colour_sorts.specs.Colours.{size}
-use Rattle.colour_sorts.specs.Naming.{constants_of}
-use Rattle.multiset_terms.specs.declared.terms.Term.{Term, fold-Term}
-use Rattle.multiset_terms.specs.declared.terms.Term.TheOpen.{Term-F, Variable, Operator, Dot, Number, Successor, Predecessor, Tuple, All, Empty, NumberOf, Scalar, Add, Subtract, BlockOf}
+use Rattle.net_model.specs.Ids.{constants_of}
+use Rattle.net_model.specs.declared.terms.Term.{Term, fold-Term}
+use Rattle.net_model.specs.declared.terms.Term.TheOpen.{Term-F, Variable, Operator, Dot, Number, Successor, Predecessor, Tuple, All, Empty, NumberOf, Scalar, Add, Subtract, BlockOf}
 use Rattle.multiset_terms.specs.Context.{Context}
 use Rattle.multiset_terms.specs.Typing.{sort_named}
 

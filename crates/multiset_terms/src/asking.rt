@@ -1,7 +1,7 @@
 ghost use Rattle.std.specs.Prelude.{◌≡◌, ◌<◌, ◌≤◌, ◌^◌, IfOk};
 ghost use Rattle.colour_sorts.specs.Colours.{size};
 ghost use Rattle.colour_sorts.specs.Limits.{passes_limit as passes};
-ghost use Rattle.colour_sorts.specs.Naming.{constants_of};
+ghost use Rattle.net_model.specs.Ids.{constants_of};
 ghost use Rattle.multiset_terms.specs.Context.{Context, Declarations};
 ghost use Rattle.multiset_terms.specs.Parts.{IsDeclared, IsFound, IsScope};
 

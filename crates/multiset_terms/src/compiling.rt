@@ -1,5 +1,5 @@
 ghost use Rattle.std.specs.Prelude.{◌≡◌, Bool};
-ghost use Rattle.multiset_terms.specs.declared.terms.Term.{Term as AnyTerm};
+ghost use Rattle.net_model.specs.declared.terms.Term.{Term as AnyTerm};
 ghost use Rattle.multiset_terms.specs.Context.{Context};
 ghost use Rattle.multiset_terms.specs.Parts.{AreAnswered, AreSized, IsAnswer, IsCompiled, IsDeclared, IsPart, IsScope};
 
@@ -9,8 +9,9 @@ use crate::kinds::{into_sort, is_block};
 use crate::leaves::{all, dot, none, number, operator, variable};
 use crate::making::{before, block, difference, multiple, next, sum, tuple};
 use crate::parts::{Children, Part};
-use crate::terms::{Term, Variables};
+use crate::variables::Variables;
 use colour_sorts::Domains;
+use net_model::Term;
 use std::alloc::Global;
 
 /// The part of a term, or its first broken node.

@@ -1,17 +1,18 @@
 ghost use Rattle.std.specs.Prelude.{◌≡◌};
-ghost use Rattle.multiset_terms.specs.declared.terms.Guard.TheVariants as written;
+ghost use Rattle.net_model.specs.declared.terms.Guard.TheVariants as written;
 ghost use Rattle.multiset_terms.specs.Context.{Context};
 ghost use Rattle.multiset_terms.specs.GuardParts.{AreGuardAnswers, IsGuardAnswer, IsGuardCompiled};
 ghost use Rattle.multiset_terms.specs.Parts.{AreSized, IsDeclared, IsScope};
 
-use crate::compiled::CGuard;
 use crate::compiling::part_of;
+use crate::conditions::CGuard;
 use crate::faults::{PartFault, TermFault};
 use crate::guards::{
     GuardPart, GuardParts, all_of, compared, constant, implied, not_that, some_of,
 };
-use crate::terms::{Guard, Order, Term, Variables};
+use crate::variables::Variables;
 use colour_sorts::Domains;
+use net_model::{Guard, Order, Term};
 use std::alloc::Global;
 
 /// The comparison of two terms, or its first broken node.
@@ -136,9 +137,7 @@ pub fn compile_guard(
     ensures { (ctx : Context) → IsScope ctx domains.now variables.now → IsGuardCompiled ctx guard.now result }
 {
     match guard_part_of(alloc, domains, variables, guard) {
-        Ok(part) => Ok(CGuard {
-            condition: part.condition,
-        }),
+        Ok(part) => Ok(part.condition),
         Err(PartFault::Broken { at, rule }) => Err(TermFault::IllTyped { at, rule }),
         Err(PartFault::Memory) => Err(TermFault::Memory),
     }

@@ -1,9 +1,9 @@
 ghost use Rattle.std.specs.Prelude.{◌≡◌, true};
 ghost use Rattle.multiset_terms.specs.Conditions.{all_true, any_true, are_fit, block_at, block_uses_at, compares, compares_blocks, condition_uses_at, is_block_fit, some_condition_uses, verdict, verdicts};
 
-use crate::terms::Order;
 use crate::trees::{Tree, place, tree_uses};
 use colour_sorts::Domains;
+use net_model::Order;
 use sqlite_items::{Boxed, Items};
 
 /// A block of a partition, over colour indices.
@@ -15,19 +15,19 @@ pub enum BlockTree {
     With(Tree),
 }
 
-/// A typed guard over colour indices.
+/// A guard that is well-typed, over colour indices. Contracts say which written guard it stands for.
 #[derive(Debug, Drop)]
-pub enum Condition {
+pub enum CGuard {
     /// True or false.
     Constant(bool),
     /// All of the children.
-    And(Items<Condition>),
+    And(Items<CGuard>),
     /// Some of the children.
-    Or(Items<Condition>),
+    Or(Items<CGuard>),
     /// Not the child.
-    Not(Boxed<Condition>),
+    Not(Boxed<CGuard>),
     /// Where the first child is true, the second.
-    Imply(Boxed<Condition>, Boxed<Condition>),
+    Imply(Boxed<CGuard>, Boxed<CGuard>),
     /// A comparison of two colours by their indices.
     Compare(Order, Tree, Tree),
     /// Whether two blocks of the partition at this position are the same, or where the first is false, whether they aren't.
@@ -70,22 +70,22 @@ fn block_place(domains: &Domains, partition: u32, block: &BlockTree, binding: &[
 
 /// Whether a guard is true under a binding. It takes no memory.
 #[cycle(judging)]
-pub fn is_true(domains: &Domains, condition: &Condition, binding: &[u32]) -> bool
+pub fn is_true(domains: &Domains, condition: &CGuard, binding: &[u32]) -> bool
     requires { (verdict domains.now binding.now condition.now).is_fit ≡ true }
     ensures { result ≡ (verdict domains.now binding.now condition.now).is_true }
 {
     match condition {
-        Condition::Constant(value) => *value,
-        Condition::And(parts) => are_true(domains, parts.as_slice(), binding),
-        Condition::Or(parts) => is_any_true(domains, parts.as_slice(), binding),
-        Condition::Not(part) => !is_true(domains, part.get(), binding),
-        Condition::Imply(first, second) => {
+        CGuard::Constant(value) => *value,
+        CGuard::And(parts) => are_true(domains, parts.as_slice(), binding),
+        CGuard::Or(parts) => is_any_true(domains, parts.as_slice(), binding),
+        CGuard::Not(part) => !is_true(domains, part.get(), binding),
+        CGuard::Imply(first, second) => {
             !is_true(domains, first.get(), binding) || is_true(domains, second.get(), binding)
         }
-        Condition::Compare(order, first, second) => {
+        CGuard::Compare(order, first, second) => {
             compare(*order, place(first, binding), place(second, binding))
         }
-        Condition::CompareBlocks(same, partition, first, second) => compare_blocks(
+        CGuard::CompareBlocks(same, partition, first, second) => compare_blocks(
             *same,
             block_place(domains, *partition, first, binding),
             block_place(domains, *partition, second, binding),
@@ -94,7 +94,7 @@ pub fn is_true(domains: &Domains, condition: &Condition, binding: &[u32]) -> boo
 }
 
 #[cycle(judging)]
-fn are_true(domains: &Domains, parts: &[Condition], binding: &[u32]) -> bool
+fn are_true(domains: &Domains, parts: &[CGuard], binding: &[u32]) -> bool
     requires { are_fit (verdicts domains.now binding.now parts.now) ≡ true }
     ensures { result ≡ all_true (verdicts domains.now binding.now parts.now) }
 {
@@ -107,7 +107,7 @@ fn are_true(domains: &Domains, parts: &[Condition], binding: &[u32]) -> bool
 }
 
 #[cycle(judging)]
-fn is_any_true(domains: &Domains, parts: &[Condition], binding: &[u32]) -> bool
+fn is_any_true(domains: &Domains, parts: &[CGuard], binding: &[u32]) -> bool
     requires { are_fit (verdicts domains.now binding.now parts.now) ≡ true }
     ensures { result ≡ any_true (verdicts domains.now binding.now parts.now) }
 {
@@ -131,29 +131,29 @@ fn block_uses(block: &BlockTree, variable: u32) -> bool
 
 /// Whether the variable of this number occurs in a guard.
 #[cycle(looking)]
-pub fn condition_uses(condition: &Condition, variable: u32) -> bool
+pub fn condition_uses(condition: &CGuard, variable: u32) -> bool
     ensures { result ≡ condition_uses_at variable condition.now }
 {
     match condition {
-        Condition::Constant(_) => false,
-        Condition::And(parts) => any_uses(parts.as_slice(), variable),
-        Condition::Or(parts) => any_uses(parts.as_slice(), variable),
-        Condition::Not(part) => condition_uses(part.get(), variable),
-        Condition::Imply(first, second) => {
+        CGuard::Constant(_) => false,
+        CGuard::And(parts) => any_uses(parts.as_slice(), variable),
+        CGuard::Or(parts) => any_uses(parts.as_slice(), variable),
+        CGuard::Not(part) => condition_uses(part.get(), variable),
+        CGuard::Imply(first, second) => {
             if condition_uses(first.get(), variable) {
                 true
             } else {
                 condition_uses(second.get(), variable)
             }
         }
-        Condition::Compare(_, first, second) => {
+        CGuard::Compare(_, first, second) => {
             if tree_uses(first, variable) {
                 true
             } else {
                 tree_uses(second, variable)
             }
         }
-        Condition::CompareBlocks(_, _, first, second) => {
+        CGuard::CompareBlocks(_, _, first, second) => {
             if block_uses(first, variable) {
                 true
             } else {
@@ -164,7 +164,7 @@ pub fn condition_uses(condition: &Condition, variable: u32) -> bool
 }
 
 #[cycle(looking)]
-fn any_uses(parts: &[Condition], variable: u32) -> bool
+fn any_uses(parts: &[CGuard], variable: u32) -> bool
     ensures { result ≡ some_condition_uses variable parts.now }
 {
     for part in parts {

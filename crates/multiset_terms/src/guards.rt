@@ -1,19 +1,19 @@
-ghost use Rattle.std.specs.Prelude.{◌≡◌, ◌+◌, ◌∷◌, [], IfOk, List, Ok, false};
-ghost use Rattle.multiset_terms.specs.declared.conditions.Condition.TheVariants as condition;
-ghost use Rattle.multiset_terms.specs.declared.terms.Guard.{Guard as AnyGuard};
-ghost use Rattle.multiset_terms.specs.declared.terms.Guard.TheVariants as written;
-ghost use Rattle.multiset_terms.specs.declared.terms.Term.{Term as AnyTerm};
+ghost use Rattle.std.specs.Prelude.{◌≡◌, ◌+◌, ◌<◌, ◌^◌, ◌∷◌, [], IfOk, List, Ok, false};
+ghost use Rattle.multiset_terms.specs.declared.conditions.CGuard.TheVariants as condition;
+ghost use Rattle.net_model.specs.declared.terms.Guard.{Guard as AnyGuard};
+ghost use Rattle.net_model.specs.declared.terms.Guard.TheVariants as written;
+ghost use Rattle.net_model.specs.declared.terms.Term.{Term as AnyTerm};
 ghost use Rattle.multiset_terms.specs.Context.{Context};
 ghost use Rattle.multiset_terms.specs.GuardParts.{AreGuardParts, IsCondition, IsGuardAnswer, IsGuardPart, block_tree_of, is_equality as is_equality_of};
 ghost use Rattle.multiset_terms.specs.Parts.{AreDistinct, IsPart};
 ghost use Rattle.multiset_terms.specs.Typing.{can_be_compared};
 
-use crate::conditions::{BlockTree, Condition};
+use crate::conditions::{BlockTree, CGuard};
 use crate::faults::PartFault;
 use crate::kinds::{Kind, compare_kinds};
 use crate::parts::Part;
-use crate::terms::Order;
 use crate::trees::Tree;
+use net_model::Order;
 use sqlite_items::{Boxed, Items};
 use std::alloc::Global;
 
@@ -21,7 +21,7 @@ use std::alloc::Global;
 #[derive(Debug, Drop)]
 pub struct GuardPart {
     /// The guard over colour indices.
-    pub condition: Condition,
+    pub condition: CGuard,
     /// How many nodes it has, those of its terms too.
     pub nodes: u32,
 }
@@ -30,14 +30,15 @@ pub struct GuardPart {
 #[derive(Debug, Drop)]
 pub struct GuardParts {
     /// Them over colour indices.
-    pub conditions: Items<Condition>,
+    pub conditions: Items<CGuard>,
     /// How many nodes they have together, the node itself being one more.
     pub nodes: u32,
 }
 
 /// So many nodes together. Where they are past all that a guard in memory can have, memory is wanting.
 pub fn nodes_together(first: u32, second: u32) -> Result<u32, PartFault>
-    ensures { IfOk result (λ nodes. nodes ≡ first + second) }
+    ensures nodes { IfOk result (λ nodes. nodes ≡ first + second) }
+    ensures few { IfOk result (λ nodes. nodes < 2 ^ 32) }
 {
     match first.checked_add(second) {
         Some(nodes) => Ok(nodes),
@@ -56,7 +57,7 @@ fn nodes_over(first: u32, second: u32) -> Result<u32, PartFault>
 }
 
 impl GuardParts {
-    ghost use Rattle.std.specs.Prelude.{OnOk, ◌++◌};
+    ghost use Rattle.std.specs.Prelude.{OnOk, ◌++◌, ◌<◌, ◌^◌};
 
     /// No children.
     pub fn new(alloc: Global) -> GuardParts
@@ -72,6 +73,7 @@ impl GuardParts {
     pub fn add(&mut self, part: GuardPart) -> Result<(), PartFault>
         ensures conditions { OnOk result (self.new.conditions ≡ self.old.conditions ++ part.condition ∷ []) }
         ensures nodes { OnOk result (self.new.nodes ≡ self.old.nodes + part.nodes) }
+        ensures few { OnOk result (self.new.nodes < 2 ^ 32) }
     {
         let GuardPart { condition, nodes } = part;
         self.nodes = match nodes_together(self.nodes, nodes) {
@@ -90,7 +92,7 @@ pub fn constant(value: bool) -> GuardPart
     ensures { (ctx : Context) → IsGuardPart ctx (written.Constant value) result }
 {
     GuardPart {
-        condition: Condition::Constant(value),
+        condition: CGuard::Constant(value),
         nodes: 1,
     }
 }
@@ -100,7 +102,7 @@ pub fn all_of(parts: GuardParts) -> GuardPart
     ensures { (ctx : Context) (gs : List AnyGuard) → AreGuardParts ctx gs parts → IsGuardPart ctx (written.And gs) result }
 {
     GuardPart {
-        condition: Condition::And(parts.conditions),
+        condition: CGuard::And(parts.conditions),
         nodes: parts.nodes,
     }
 }
@@ -110,7 +112,7 @@ pub fn some_of(parts: GuardParts) -> GuardPart
     ensures { (ctx : Context) (gs : List AnyGuard) → AreGuardParts ctx gs parts → IsGuardPart ctx (written.Or gs) result }
 {
     GuardPart {
-        condition: Condition::Or(parts.conditions),
+        condition: CGuard::Or(parts.conditions),
         nodes: parts.nodes,
     }
 }
@@ -125,14 +127,14 @@ pub fn not_that(alloc: Global, part: GuardPart) -> Result<GuardPart, PartFault>
     };
     match Boxed::new(alloc, part.condition) {
         Ok(condition) => Ok(GuardPart {
-            condition: Condition::Not(condition),
+            condition: CGuard::Not(condition),
             nodes,
         }),
         Err(_) => Err(PartFault::Memory),
     }
 }
 
-fn implication(alloc: Global, first: Condition, second: Condition) -> Result<Condition, PartFault>
+fn implication(alloc: Global, first: CGuard, second: CGuard) -> Result<CGuard, PartFault>
     ensures { IfOk result (λ made. made ≡ condition.Imply first second) }
 {
     let first = match Boxed::new(alloc, first) {
@@ -140,7 +142,7 @@ fn implication(alloc: Global, first: Condition, second: Condition) -> Result<Con
         Err(_) => return Err(PartFault::Memory),
     };
     match Boxed::new(alloc, second) {
-        Ok(second) => Ok(Condition::Imply(first, second)),
+        Ok(second) => Ok(CGuard::Imply(first, second)),
         Err(_) => Err(PartFault::Memory),
     }
 }
@@ -178,18 +180,18 @@ fn is_equality(order: Order) -> bool
 }
 
 /// The comparison of two parts that can be compared.
-fn comparison(order: Order, first: Part, second: Part) -> Condition
+fn comparison(order: Order, first: Part, second: Part) -> CGuard
     ensures { (ctx : Context) (t : AnyTerm) (u : AnyTerm) → AreDistinct ctx → IsPart ctx false t first → IsPart ctx false u second
         → Ok tt ≡ can_be_compared order (first.kind ∷ second.kind ∷ []) → IsCondition ctx (written.Compare order t u) result }
 {
     match first.kind {
-        Kind::Block(partition) => Condition::CompareBlocks(
+        Kind::Block(partition) => CGuard::CompareBlocks(
             is_equality(order),
             partition,
             block_tree(first.block, first.tree),
             block_tree(second.block, second.tree),
         ),
-        _ => Condition::Compare(order, first.tree, second.tree),
+        _ => CGuard::Compare(order, first.tree, second.tree),
     }
 }
 

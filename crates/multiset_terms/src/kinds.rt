@@ -1,15 +1,14 @@
-ghost use Rattle.std.specs.Prelude.{◌≡◌, ◌<◌, IfOk, ◌∷◌, [], map, length, drop};
+ghost use Rattle.std.specs.Prelude.{◌≡◌, ◌<◌, ◌∷◌, [], length, drop};
 ghost use Rattle.std.specs.List.{list_all};
 ghost use Rattle.std.proofs.Common.{get_or};
+ghost use Rattle.colour_sorts.specs.Comparing.{is_same_sort};
 ghost use Rattle.colour_sorts.specs.declared.sorts.Sort.TheVariants as sort;
 ghost use Rattle.multiset_terms.specs.Kinds.{block_kind_by, sum_kind_by};
-ghost use Rattle.multiset_terms.specs.Typing.{all_same, can_be_compared, can_be_ordered, can_be_same, has_order as has_order_of, is_alike as are_alike, is_block as is_block_kind, is_choice as is_choice_kind, is_colour as is_colour_kind, is_cyclic as is_cyclic_sort, is_same_sort, step_kind as step_kind_of, sort_of_kind, stands_over, sum_kind as sum_kind_of};
+ghost use Rattle.multiset_terms.specs.Typing.{can_be_compared, can_be_ordered, can_be_same, has_order as has_order_of, is_alike as are_alike, is_block as is_block_kind, is_choice as is_choice_kind, is_colour as is_colour_kind, is_cyclic as is_cyclic_sort, step_kind as step_kind_of, sort_of_kind, stands_over, sum_kind as sum_kind_of};
 
-use crate::terms::Order;
-use colour_sorts::{Rule, Sort};
+use colour_sorts::{Rule, Sort, same_sort};
+use net_model::Order;
 use sqlite_items::Items;
-use std::alloc::Global;
-use wide_sums::Memory;
 
 /// What a term is. Of the multisets those that are written as all colours of a sort are told apart.
 #[derive(Debug, Drop)]
@@ -22,78 +21,6 @@ pub enum Kind {
     Multiset(Sort),
     /// A block of the partition at this position.
     Block(u32),
-}
-
-/// Another sort of the same value.
-#[cycle(copying)]
-pub fn copy_sort(alloc: Global, sort: &Sort) -> Result<Sort, Memory>
-    ensures { IfOk result (λ copy. copy ≡ sort.now) }
-{
-    match sort {
-        Sort::Dot => Ok(Sort::Dot),
-        Sort::Listed(at) => Ok(Sort::Listed(*at)),
-        Sort::Cyclic(at) => Ok(Sort::Cyclic(*at)),
-        Sort::Range(span) => Ok(Sort::Range(*span)),
-        Sort::Product(parts) => match copy_parts(alloc, parts.as_slice()) {
-            Ok(copies) => Ok(Sort::Product(copies)),
-            Err(memory) => Err(memory),
-        },
-    }
-}
-
-#[cycle(copying)]
-fn copy_parts(alloc: Global, parts: &[Sort]) -> Result<Items<Sort>, Memory>
-    ensures { IfOk result (λ copies. copies ≡ parts.now) }
-{
-    let mut copies = Vec::with_capacity(alloc, parts.len())?;
-    for part in parts {
-        copies.push(copy_sort(alloc, part)?)?;
-    }
-    Ok(Items::from_vec(copies))
-}
-
-/// Whether two sorts are the same.
-#[cycle(comparing)]
-pub fn same_sort(first: &Sort, second: &Sort) -> bool
-    ensures { result ≡ is_same_sort first.now second.now }
-{
-    match first {
-        Sort::Dot => match second {
-            Sort::Dot => true,
-            _ => false,
-        },
-        Sort::Listed(at) => match second {
-            Sort::Listed(other) => *at == *other,
-            _ => false,
-        },
-        Sort::Cyclic(at) => match second {
-            Sort::Cyclic(other) => *at == *other,
-            _ => false,
-        },
-        Sort::Range(span) => match second {
-            Sort::Range(other) => span.first == other.first && span.last == other.last,
-            _ => false,
-        },
-        Sort::Product(parts) => match second {
-            Sort::Product(others) => same_sorts(parts.as_slice(), others.as_slice()),
-            _ => false,
-        },
-    }
-}
-
-#[cycle(comparing)]
-fn same_sorts(first: &[Sort], second: &[Sort]) -> bool
-    ensures { result ≡ all_same (map is_same_sort first.now) second.now }
-{
-    if first.len() != second.len() {
-        return false;
-    }
-    for (at, part) in first.iter().enumerate() {
-        if !same_sort(part, &second[at]) {
-            return false;
-        }
-    }
-    true
 }
 
 fn is_cyclic(sort: &Sort) -> bool

@@ -1,12 +1,12 @@
 ghost use Rattle.multiset_terms.specs.Bindings.{BuiltAreAScope, IndicesBind};
+ghost use Rattle.multiset_terms.specs.Dependence.{PartsMakeTheGuard, TruthDependsOnVariables, ValuesDependOnVariables};
 ghost use Rattle.multiset_terms.specs.Instances.{WorkedInstances};
-ghost use Rattle.multiset_terms.specs.Laws.{AllNodesAgree, AllTupleNodesAgree, ColoursAreToldApart, ColoursStandOnce, ListsAgree, SortsAreToldApart, TuplesAgree};
+ghost use Rattle.multiset_terms.specs.Laws.{AllNodesAgree, AllTupleNodesAgree, ColoursAreToldApart, ColoursStandOnce, ListsAgree, TuplesAgree};
+ghost use Rattle.multiset_terms.specs.Usable.{BuiltAreUsable, GuardsCanBeJudged, IndicesAreBoundBySizes, TermsCanBeAdded, TermsCanBeEvaluated, UsableAreDeclared};
 
-/// A law for those who read the definitions: the tests of colours and of sorts are true of two of them exactly where they are the
-/// same.
+/// A law for those who read the definitions: the test of colours is true of two of them exactly where they are the same.
 pub fn colours_are_told_apart()
-    ensures colours { ColoursAreToldApart }
-    ensures sorts { SortsAreToldApart }
+    ensures { ColoursAreToldApart }
 {}
 
 /// A law for those who number colours: where the constants of each enumeration are distinct, each colour of a sort stands once in
@@ -39,6 +39,35 @@ pub fn built_declarations_are_a_scope()
 /// variables.
 pub fn indices_in_range_bind()
     ensures { IndicesBind }
+{}
+
+/// A law for those who bind variables: the value of a term, and whether it has one, depends on the variables that occur in it, alone;
+/// and so does the truth of a guard.
+pub fn values_depend_on_variables()
+    ensures values { ValuesDependOnVariables }
+    ensures truths { TruthDependsOnVariables }
+{}
+
+/// A law for those who test the parts of a guard: it is true where all its parts are.
+pub fn parts_make_the_guard()
+    ensures { PartsMakeTheGuard }
+{}
+
+/// A law for those who compile terms: declarations that are built, with ids and constants that differ, can be used, and those that can
+/// be used are declared. Indices are in range exactly where they are a binding of variables that have as many values as their sorts
+/// have colours.
+pub fn declarations_can_be_used()
+    ensures built { BuiltAreUsable }
+    ensures declared { UsableAreDeclared }
+    ensures bound { IndicesAreBoundBySizes }
+{}
+
+/// A law for those who evaluate terms: over declarations that can be used, what is compiled can be evaluated, added to a buffer and
+/// judged under each such binding.
+pub fn compiled_terms_can_be_evaluated()
+    ensures evaluated { TermsCanBeEvaluated }
+    ensures added { TermsCanBeAdded }
+    ensures judged { GuardsCanBeJudged }
 {}
 
 /// Instances of the definitions, that were worked out by hand: weights, first broken nodes and a difference.

@@ -1,18 +1,18 @@
 ghost use Rattle.std.specs.Prelude.{◌≡◌, Bool, Some, slice_get};
 ghost use Rattle.colour_sorts.specs.declared.sorts.Colour.{Colour as AnyColour};
-ghost use Rattle.multiset_terms.specs.declared.terms.Term.{Term as AnyTerm};
+ghost use Rattle.net_model.specs.declared.terms.Term.{Term as AnyTerm};
 ghost use Rattle.multiset_terms.specs.Context.{Context, Declarations};
 ghost use Rattle.multiset_terms.specs.Parts.{AreDistinct, AreSized, HasSize, IsAnswer, IsDeclared, IsConstant, IsElement, IsEmpty, IsEvery, IsPart, IsScope};
-ghost use Rattle.multiset_terms.specs.declared.terms.Term.TheVariants as written;
+ghost use Rattle.net_model.specs.declared.terms.Term.TheVariants as written;
 ghost use Rattle.multiset_terms.specs.Values.{colours_of};
 
 use crate::asking::resolved;
 use crate::faults::PartFault;
-use crate::kinds::{Kind, copy_sort};
+use crate::kinds::Kind;
 use crate::parts::Part;
-use crate::terms::Variables;
 use crate::trees::Tree;
-use colour_sorts::{Colour, Declared, Domains, Rule, Sort, SortTerm, Span};
+use crate::variables::Variables;
+use colour_sorts::{Colour, Declared, Domains, Rule, Sort, SortTerm, Span, copy_sort};
 use std::alloc::Global;
 
 /// A colour of this index, among so many of its sort.

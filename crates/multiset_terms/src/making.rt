@@ -1,7 +1,7 @@
 ghost use Rattle.std.specs.Prelude.{◌≡◌, ◌∷◌, [], ℕ, Bool, List, Some};
 ghost use Rattle.multiset_terms.specs.Typing.{partition_place, partition_sort};
-ghost use Rattle.multiset_terms.specs.declared.terms.Term.{Term as AnyTerm};
-ghost use Rattle.multiset_terms.specs.declared.terms.Term.TheVariants as written;
+ghost use Rattle.net_model.specs.declared.terms.Term.{Term as AnyTerm};
+ghost use Rattle.net_model.specs.declared.terms.Term.TheVariants as written;
 ghost use Rattle.multiset_terms.specs.Context.{Context, Declarations};
 ghost use Rattle.multiset_terms.specs.Parts.{AreChildren, AreDistinct, IsAnswer, IsPart, IsScope, tuple_made};
 

@@ -6,7 +6,7 @@ use Rattle.doc_tree.specs.declared.faults.Fault.{Fault}
 use Rattle.doc_tree.specs.declared.faults.Fault.TheVariants as fault
 use Rattle.net_elements.specs.declared.faults.ReadFault.{ReadFault}
 use Rattle.net_elements.specs.declared.faults.ReadFault.TheVariants.{Structure, Memory}
-use Rattle.net_elements.specs.declared.kinds.Kind.TheVariants.{Pt}
+use Rattle.net_model.specs.declared.kinds.Kind.TheVariants.{Pt}
 use Rattle.net_elements.specs.declared.roles.Role.TheVariants.{Pnml}
 use Rattle.net_elements.specs.Rules.{Met, Note, broken, final, node, symbol, broken_from, broken_rules, is_among, nothing_met, walk_of, with_node, with_symbol}
 use Rattle.net_elements.specs.Walking.{Finds, IsFirst, found, name_of}

@@ -8,7 +8,7 @@ use Rattle.doc_tree.specs.declared.faults.Fault.{Fault}
 use Rattle.doc_tree.specs.declared.faults.Fault.TheVariants as fault
 use Rattle.net_elements.specs.declared.faults.ReadFault.{ReadFault}
 use Rattle.net_elements.specs.declared.faults.ReadFault.TheVariants.{Structure, Memory}
-use Rattle.net_elements.specs.declared.kinds.Kind.{Kind}
+use Rattle.net_model.specs.declared.kinds.Kind.{Kind}
 use Rattle.net_elements.specs.declared.roles.Key.{Key}
 use Rattle.net_elements.specs.declared.roles.Role.{Role}
 use Rattle.net_elements.specs.declared.seats.Seat.{Seat}

@@ -1,3 +1,4 @@
+pub mod Instances
 pub mod Rows
 pub mod Rules
 pub mod Table

@@ -2,8 +2,8 @@
 -- the elements are those of the standard's place/transition nets and symmetric nets; that these are all, in this number, and
 -- what of them is passed over, is this project's own.
 use Rattle.std.specs.Prelude.{ℕ, List, [], ◌∷◌, ◌++◌, codes}
-use Rattle.net_elements.specs.declared.kinds.Kind.{Kind}
-use Rattle.net_elements.specs.declared.kinds.Kind.TheVariants.{Pt, Symmetric}
+use Rattle.net_model.specs.declared.kinds.Kind.{Kind}
+use Rattle.net_model.specs.declared.kinds.Kind.TheVariants.{Pt, Symmetric}
 use Rattle.net_elements.specs.declared.roles.Role.{Role}
 use Rattle.net_elements.specs.declared.roles.Role.TheVariants.{Pnml, Net, Page, Place, Transition, Arc, ReferencePlace, ReferenceTransition, InitialMarking, Inscription, Text, PlaceType, HlInitialMarking, HlInscription, Condition, Declaration, SortStructure, TermStructure, GuardStructure, DeclarationStructure, Declarations, NamedSort, Partition, PartitionElement, VariableDecl, FiniteEnumeration, CyclicEnumeration, FeConstant, Dot, UserSort, ProductSort, FiniteIntRange, Variable, UserOperator, DotConstant, FiniteIntRangeConstant, Successor, Predecessor, Tuple, Add, Subtract, All, Empty, NumberOf, ScalarProduct, NumberConstant, Positive, Natural, PartitionElementOf, And, Or, Not, Imply, Equality, Inequality, LessThan, LessThanOrEqual, GreaterThan, GreaterThanOrEqual, BooleanConstant, TermSubterm, GuardSubterm, NumberSubterm}
 use Rattle.net_elements.specs.declared.roles.Key.{Key}

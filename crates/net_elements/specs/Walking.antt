@@ -1,12 +1,14 @@
 -- What a walk finds: the ids that were met, or the first broken rule.
-use Rattle.std.specs.Prelude.{◌≡◌, ℕ, List, [], ◌∷◌, ◌++◌, slice_get, Some, Result, Ok, Err, if◌then◌else◌}
+use Rattle.std.specs.Prelude.{◌≡◌, ℕ, ◌-◌, ◌<◌, ◌^◌, List, [], ◌∷◌, ◌++◌, length, slice_get, Some, Result, Ok, Err, if◌then◌else◌}
 use Rattle.std.specs.Bool.{⊤}
 use Rattle.doc_model.specs.declared.tree.Element.{Element, out-Element}
 use Rattle.doc_tree.specs.declared.faults.Fault.{Fault}
 use Rattle.doc_tree.specs.declared.faults.Fault.TheVariants as fault
 use Rattle.net_elements.specs.declared.faults.ReadFault.{ReadFault}
 use Rattle.net_elements.specs.declared.faults.ReadFault.TheVariants.{Structure, Memory}
-use Rattle.net_elements.specs.Rules.{Met, Note, broken, final, is_among, node, symbol, with_node, with_symbol}
+use Rattle.net_model.specs.declared.kinds.Kind.TheVariants.{Pt}
+use Rattle.net_elements.specs.declared.roles.Role.TheVariants.{Pnml}
+use Rattle.net_elements.specs.Rules.{Met, Note, broken, final, is_among, node, nothing_met, symbol, walk_of, with_node, with_symbol}
 
 abbrev pub found : Met → List Note → Result Met (ℕ × Fault)
 found met [] = Ok met
@@ -14,6 +16,10 @@ found met (broken at kind ∷ notes) = Err (at, kind)
 found met (final at kind ∷ notes) = Err (at, kind)
 found met (node at id ∷ notes) = if is_among met.nodes id then Err (at, fault.DuplicateId) else found (with_node met id) notes
 found met (symbol at id ∷ notes) = if is_among met.symbols id then Err (at, fault.DuplicateId) else found (with_symbol met id) notes
+
+-- behind a walk over the tree without a broken rule fewer than 2^32 - 1 ids of nodes and of symbols were met
+abbrev pub HasFewIds : Element → Type 0
+HasFewIds e = (after : Met) → found nothing_met ((walk_of e).notes Pt Pnml) ≡ Ok after → (length after.nodes < 2 ^ 32 - 1) × (length after.symbols < 2 ^ 32 - 1)
 
 -- a walk behind which these ids were met
 abbrev pub Finds : Met → Result Unit ReadFault → Result Met (ℕ × Fault) → Type 0

@@ -2,11 +2,11 @@ ghost use Rattle.std.specs.Prelude.{◌≡◌, reverse, MatchOption, None, Some}
 ghost use Rattle.doc_tree.specs.Characters.{is_white};
 ghost use Rattle.net_elements.specs.Rules.{fault_of, is_bad_text, kind_of, kind_within, passes, trimmed, truth_of, value_of, without_front};
 
-use crate::kinds::Kind;
 use crate::roles::{Key, Role};
 use doc_model::Attribute;
 use doc_tree::Fault;
 use name_tables::{is_id, read_number};
+use net_model::Kind;
 
 const PT_NET: &[u8] = b"http://www.pnml.org/version-2009/grammar/ptnet";
 

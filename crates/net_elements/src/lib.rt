@@ -3,7 +3,7 @@
 
 mod attributes;
 mod faults;
-mod kinds;
+mod laws;
 mod roles;
 mod rows;
 mod seats;
@@ -11,8 +11,7 @@ mod walker;
 
 pub use attributes::{kind_of, trimmed, truth_of, value_of};
 pub use faults::ReadFault;
-pub use kinds::Kind;
-pub use roles::{Key, Role, key_word_of, word_of};
-pub use rows::{Count, Slot, keys_of, slots_of};
+pub use laws::small_instances_hold;
+pub use roles::{Role, word_of};
 pub use seats::{is_passed_over, role_named};
-pub use walker::{Walker, check};
+pub use walker::check;

@@ -2,8 +2,8 @@ ghost use Rattle.std.specs.Prelude.{◌≡◌, map};
 ghost use Rattle.net_elements.specs.Table.{arc_labels, keys_of, nodes_of, place_labels, slots_of, transition_labels};
 ghost use Rattle.net_elements.specs.Rows.{slot_view};
 
-use crate::kinds::Kind;
 use crate::roles::{Key, Role};
+use net_model::Kind;
 
 /// How many children there may be of some roles.
 #[derive(Clone, Copy, Debug, PartialEq, Eq)]

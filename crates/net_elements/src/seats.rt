@@ -3,11 +3,11 @@ ghost use Rattle.net_elements.specs.Rules.{fewest, is_aside, is_in, is_label, is
 ghost use Rattle.net_elements.specs.Rows.{slot_view};
 ghost use Rattle.net_elements.specs.Walking.{name_of};
 
-use crate::kinds::Kind;
 use crate::roles::{Role, word_of};
 use crate::rows::{Count, Slot, slots_of};
 use doc_model::Element;
 use doc_tree::Fault;
+use net_model::Kind;
 
 /// How a child is taken.
 #[derive(Clone, Copy, Debug, PartialEq, Eq)]

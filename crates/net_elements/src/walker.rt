@@ -1,19 +1,19 @@
-ghost use Rattle.std.specs.Prelude.{◌≡◌, [], Err, IfErr, OnOk, codes, map};
+ghost use Rattle.std.specs.Prelude.{◌≡◌, ◌-◌, ◌<◌, ◌^◌, [], Err, IfErr, OnOk, codes, length, map};
 ghost use Rattle.std.specs.Str.{bytes_eq};
 ghost use Rattle.net_elements.specs.declared.faults.ReadFault.TheVariants.{Structure};
 ghost use Rattle.net_elements.specs.Rules.{broken_rules};
-ghost use Rattle.net_elements.specs.Walking.{IsFirst, IsMet, name_of};
+ghost use Rattle.net_elements.specs.Walking.{HasFewIds, IsFirst, IsMet, name_of};
 ghost use Rattle.doc_model.specs.declared.tree.Element.{out-Element};
 
 use crate::attributes::{fault_of, is_bad_text, kind_within, passes, value_of};
 use crate::faults::ReadFault;
-use crate::kinds::Kind;
 use crate::roles::{Key, Role, key_word_of};
 use crate::rows::{keys_of, slots_of};
 use crate::seats::{Seat, is_missing, seat_of};
 use doc_model::Element;
 use doc_tree::Fault;
 use name_tables::{Added, Ids, Name};
+use net_model::Kind;
 use std::alloc::Global;
 use std::marker::Model;
 use wide_sums::Memory;
@@ -26,11 +26,14 @@ pub struct Walker {
 }
 
 impl Model for Walker {
+    ghost use Rattle.std.specs.Prelude.{◌-◌, ◌<◌, ◌^◌, length};
     ghost use Rattle.net_elements.specs.Rules.{Met};
 
     ghost Value = { Met };
 
     ghost view = { λ walker. record { nodes = walker.nodes; symbols = walker.symbols } };
+
+    ghost invariant = { λ walker. (length walker.nodes < 2 ^ 32 - 1) × (length walker.symbols < 2 ^ 32 - 1) };
 }
 
 /// The most ids that are numbered.
@@ -44,9 +47,11 @@ fn broken(at: u64, kind: Fault) -> Result<(), ReadFault>
 
 /// Adds an id to those that were met.
 fn meet(alloc: Global, ids: &mut Ids, at: u64, id: &[u8]) -> Result<(), ReadFault>
-    ensures { IsMet ids.old at id.now ids.new result }
+    requires { length ids.old < 2 ^ 32 - 1 }
+    ensures met { IsMet ids.old at id.now ids.new result }
+    ensures few { length ids.new < 2 ^ 32 - 1 }
 {
-    if ids.count() > MOST_IDS {
+    if ids.count() >= MOST_IDS {
         return Err(ReadFault::Memory);
     }
     match ids.add(Name::new(alloc, id)?)? {
@@ -164,9 +169,11 @@ fn is_root(element: &Element) -> bool
     element.name.bytes() == b"pnml".as_slice()
 }
 
-/// Walks over a whole tree, and answers its first broken rule where one is broken.
+/// Walks over a whole tree, and answers its first broken rule where one is broken. A tree with 2^32 - 1 ids or more of nodes or
+/// of symbols is too large for [`Memory`](ReadFault::Memory).
 pub fn check(alloc: Global, root: &Element) -> Result<(), ReadFault>
     ensures sound { OnOk result (broken_rules root.now ≡ []) }
+    ensures few { OnOk result (HasFewIds root.now) }
     ensures first { IfErr result (λ fault. IsFirst (broken_rules root.now) fault) }
 {
     if !is_root(root) {

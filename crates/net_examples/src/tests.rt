@@ -37,7 +37,7 @@ fn document(alloc: Global, rows: &Rows, first: &[u8], second: &[u8]) -> Result<V
 
 /// Whether the first rule that the tree of a text breaks is this one.
 fn breaks(alloc: Global, text: &[u8], broken: Result<(), ReadFault>) -> bool {
-    if text.len() > 1_000_000 {
+    if text.len() > 1_000_000_000 {
         return false;
     }
     match read_pieces(alloc, &[text]) {
@@ -967,5 +967,43 @@ duplicate-id <namedsort id='a'><finiteenumeration><feconstant id='e'/></finiteen
 #[test]
 fn declarations_break_what_is_said(rt: HostRuntime) -> Result<(), Fail> {
     assert_eq!(rt; first_wrong(rt.alloc(), &DECLARATIONS)?, None);
+    Ok(())
+}
+
+/// An element of a name with an id of its own, up to the quote behind the id: a letter and six digits of a number, the last one
+/// first.
+fn put_node(text: &mut Vec<u8>, start: &[u8], number: u32) -> Result<(), Fail> {
+    text.extend_from_slice(start)?;
+    let mut rest = number;
+    for _ in 0..6 {
+        text.push(b'0' + (rest % 10) as u8)?;
+        rest /= 10;
+    }
+    text.push(b'\'')?;
+    Ok(())
+}
+
+/// A net of so many places, and of so many arcs from a place to a transition.
+fn large_net(alloc: Global, count: u32) -> Result<Vec<u8>, Fail> {
+    let mut text = Vec::from_slice(
+        alloc,
+        b"<pnml><net id='n' type='http://www.pnml.org/version-2009/grammar/ptnet'><page id='g'><transition id='t'/>",
+    )?;
+    for number in 0..count {
+        put_node(&mut text, b"<place id='p", number)?;
+        text.extend_from_slice(b"/>")?;
+    }
+    for number in 0..count {
+        put_node(&mut text, b"<arc id='a", number)?;
+        text.extend_from_slice(b" source='p000000' target='t'/>")?;
+    }
+    text.extend_from_slice(b"</page></net></pnml>")?;
+    Ok(text)
+}
+
+#[test]
+fn a_large_net_breaks_no_rule(rt: HostRuntime) -> Result<(), Fail> {
+    let text = large_net(rt.alloc(), 70_000)?;
+    assert_eq!(rt; breaks(rt.alloc(), &text, Ok(())), true);
     Ok(())
 }

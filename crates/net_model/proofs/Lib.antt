@@ -1,0 +1,2 @@
+pub mod Inductions
+pub mod Layers

@@ -1,7 +1,7 @@
-use colour_sorts::{NamedSort, Partition, SortTerm};
-use multiset_terms::{Guard, Term};
+use crate::kinds::Kind;
+use crate::sorts::{NamedSort, Partition, SortTerm};
+use crate::terms::{Guard, Term};
 use name_tables::Name;
-use net_elements::Kind;
 use sqlite_items::Items;
 
 /// What stands at a place as its marking, or at an arc as its inscription.

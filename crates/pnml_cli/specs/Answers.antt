@@ -7,8 +7,8 @@ use Rattle.pnml_inputs.specs.Writing.{AppendsPrefix}
 use Rattle.pnml_inputs.specs.declared.inputs.Role.{Role}
 use Rattle.check_answer.specs.Answers.{IsCheckAnswer, reading_of}
 use Rattle.check_answer.specs.Headline.{HasInvariant}
-use Rattle.check_answer.specs.declared.outcomes.Outcome.{Outcome}
-use Rattle.check_answer.specs.declared.outcomes.Outcome.TheVariants.{Holds, TooLong, Usage}
+use Rattle.answers.specs.declared.outcomes.Outcome.{Outcome}
+use Rattle.answers.specs.declared.outcomes.Outcome.TheVariants.{Holds, TooLong, Usage}
 use Rattle.canon_answer.specs.Answers.{IsCanonAnswer, net_reading}
 use Rattle.pnml_cli.specs.Forms.{Form, canon, check, form_of}
 

@@ -1,9 +1,11 @@
 ghost use Rattle.std.specs.Prelude.{◌≡◌, ◌≤◌, ◌^◌, ◌⊎◌, ◌↔◌, Some, None, IfSome, IfNone, IfOk, IfErr, OnOk, OnErr, IsSome, codes, length};
 ghost use Rattle.host_io.specs.Causes.{Rose};
 ghost use Rattle.pnml_inputs.specs.declared.inputs.Role.{Role};
-ghost use Rattle.check_answer.specs.Answers.{IsAnswerRead, IsCheckAnswer};
-ghost use Rattle.check_answer.specs.Outcomes.{IsFinal, IsSilent};
-ghost use Rattle.check_answer.specs.Verdicts.{IsVerdict, refusal_line};
+ghost use Rattle.answers.specs.Answers.{IsAnswerRead};
+ghost use Rattle.answers.specs.Outcomes.{IsFinal, IsSilent};
+ghost use Rattle.answers.specs.Refusals.{refusal_line};
+ghost use Rattle.check_answer.specs.Answers.{IsCheckAnswer};
+ghost use Rattle.check_answer.specs.Verdicts.{IsVerdict};
 ghost use Rattle.canon_answer.specs.Answers.{IsCanonAnswer};
 ghost use Rattle.canon_answer.specs.Canons.{IsCanon};
 ghost use Rattle.pnml_cli.specs.Answers.{IsAnswer, IsAnswerTo, IsCut, IsTooLong, IsUnread, IsWritten, ShowInvariant};
@@ -12,8 +14,9 @@ ghost use Rattle.pnml_cli.specs.Silences.{Silences, SilencesWords};
 ghost use Rattle.pnml_cli.specs.Written.{operands_of, written};
 
 use crate::laws::answers_show_what_they_say;
+use answers::{Outcome, Reply, too_long};
 use canon_answer::canon;
-use check_answer::{Outcome, Reply, too_long, verdict};
+use check_answer::verdict;
 use host_io::{Failed, Files, Gate, Sink};
 use name_tables::Name;
 use pnml_inputs::{Inputs, Role, Stop, put_all, read_input, read_inputs};

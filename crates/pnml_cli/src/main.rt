@@ -7,7 +7,7 @@ mod laws;
 #[cfg(test)]
 mod tests;
 
-use check_answer::{Outcome, status};
+use answers::{Outcome, status};
 use command::run;
 use host_io::{HostFiles, HostSink, OpenGate};
 use name_tables::Name;

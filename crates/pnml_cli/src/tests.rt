@@ -1,5 +1,5 @@
 use crate::command::run;
-use check_answer::{Outcome, status};
+use answers::{Outcome, status};
 use host_io::{MemFiles, MemSink, OpenGate};
 use name_tables::Name;
 use pnml_inputs::{MAX_BYTES, Role};

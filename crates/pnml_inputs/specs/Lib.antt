@@ -1,3 +1,5 @@
 pub mod Reading
+pub mod Answers
+pub mod Intake
 pub mod Writing
 pub mod Texts

@@ -1,9 +1,9 @@
-ghost use Rattle.std.specs.Prelude.{◌≡◌, ℕ, ◌<◌, ◌≤◌, ◌^◌, List, Option, ◌++◌, length, vec_len, IsTrue, true, false, IfOk, IfErr, OnOk, OnErr};
-ghost use Rattle.std.specs.Io.KnownBytes.{Consumes, IsAtEnd};
-ghost use Rattle.host_io.specs.Causes.{Rose};
-ghost use Rattle.pnml_inputs.specs.Reading.{IsBroken, within_limit, file_reading, inputs_reading, Reads};
+ghost use Rattle.std.specs.Prelude.{◌≡◌, ◌<◌, ◌≤◌, ◌^◌, length, IfOk, OnErr};
+ghost use Rattle.pnml_inputs.specs.Answers.{IsQuiet};
+ghost use Rattle.pnml_inputs.specs.Reading.{file_reading, inputs_reading, Reads};
 
-use host_io::{Failed, Files};
+use crate::sources::{Source, read_whole};
+use host_io::Files;
 use name_tables::Name;
 use std::alloc::Global;
 use std::marker::Model;
@@ -120,56 +120,6 @@ fn new_buffer(alloc: Global) -> Result<Vec<u8>, Stop>
     }
 }
 
-/// Reads once, to the end of `bytes`. It answers whether any byte came.
-fn read_more<F: Files>(files: &mut F, buffer: &mut [u8], bytes: &mut Vec<u8>) -> Result<bool, Stop>
-    requires ready { IsTrue (F.ready files.old) }
-    requires room { 0 < length buffer.old }
-    ensures ready { IsTrue (F.ready files.new) }
-    ensures same { F.held files.new ≡ F.held files.old }
-    ensures later { F.faults files.old ≤ F.faults files.new }
-    ensures more { result ≡ Ok true → vec_len bytes.old < vec_len bytes.new }
-    ensures consumed { OnOk result ((told : Option (List ℕ))
-        → Consumes told (F.left files.old) bytes.old.items
-        → Consumes told (F.left files.new) bytes.new.items) }
-    ensures end { result ≡ Ok false → IsAtEnd (F.left files.new) × (bytes.new.items ≡ bytes.old.items) }
-    ensures stop { IfErr result (λ stop. IsBroken (F.faults files.old) (F.faults files.new) stop) }
-{
-    let count = match files.read(buffer) {
-        Ok(count) => count,
-        Err(Failed) => return Err(Stop::Fault),
-    };
-    match bytes.extend_from_slice(&buffer[..count]) {
-        Ok(()) => Ok(0 < count),
-        Err(_) => Err(Stop::Memory),
-    }
-}
-
-/// Reads what is left of the current file. The first byte past the limit ends the reading.
-fn read_to_end<F: Files>(
-    alloc: Global,
-    role: Role,
-    files: &mut F,
-    buffer: &mut [u8],
-) -> Result<Vec<u8>, Stop>
-    requires ready { IsTrue (F.ready files.old) }
-    requires room { 0 < length buffer.old }
-    ensures same { F.held files.new ≡ F.held files.old }
-    ensures later { F.faults files.old ≤ F.faults files.new }
-    ensures read { Reads (λ bytes. bytes.items) (F.left files.old) (within_limit role)
-        (F.faults files.old) (F.faults files.new) result }
-    ensures limit { IfOk result (λ bytes. length bytes.items ≤ 2 ^ 26) }
-{
-    let mut bytes = Vec::new(alloc);
-    while bytes.len() <= MAX_BYTES {
-        match read_more(files, buffer, &mut bytes) {
-            Ok(true) => {}
-            Ok(false) => return Ok(bytes),
-            Err(stop) => return Err(stop),
-        }
-    }
-    Err(Stop::TooLong(role))
-}
-
 /// Opens one file and reads it to its end.
 fn read_file<F: Files>(
     alloc: Global,
@@ -181,14 +131,12 @@ fn read_file<F: Files>(
     requires { 0 < length buffer.old }
     ensures same { F.held files.new ≡ F.held files.old }
     ensures later { F.faults files.old ≤ F.faults files.new }
+    ensures quiet { IsQuiet (F.faults files.old) (F.faults files.new) result }
     ensures read { Reads (λ bytes. bytes.items) (F.held files.old) (file_reading role name.now)
         (F.faults files.old) (F.faults files.new) result }
     ensures limit { IfOk result (λ bytes. length bytes.items ≤ 2 ^ 26) }
 {
-    match files.open_file(name) {
-        Ok(()) => read_to_end(alloc, role, files, buffer),
-        Err(Failed) => Err(Stop::Fault),
-    }
+    read_whole(alloc, Source { role, name }, files, buffer)
 }
 
 /// Reads the one file of a command to its end.
@@ -204,6 +152,7 @@ pub fn read_input<F: Files>(
 ) -> Result<Vec<u8>, Stop>
     ensures same { F.held files.new ≡ F.held files.old }
     ensures later { F.faults files.old ≤ F.faults files.new }
+    ensures quiet { IsQuiet (F.faults files.old) (F.faults files.new) result }
     ensures read { Reads (λ bytes. bytes.items) (F.held files.old) (file_reading role name.now)
         (F.faults files.old) (F.faults files.new) result }
     ensures limit { IfOk result (λ bytes. length bytes.items ≤ 2 ^ 26) }
@@ -230,6 +179,7 @@ pub fn read_inputs<F: Files>(
 ) -> Result<Inputs, Stop>
     ensures same { F.held files.new ≡ F.held files.old }
     ensures later { F.faults files.old ≤ F.faults files.new }
+    ensures quiet { IsQuiet (F.faults files.old) (F.faults files.new) result }
     ensures read { Reads (λ inputs. inputs) (F.held files.old)
         (inputs_reading net.now formula.now certificate.now)
         (F.faults files.old) (F.faults files.new) result }

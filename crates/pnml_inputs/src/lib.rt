@@ -1,10 +1,15 @@
-//! Reading the files of a command, and writing its text.
+//! Reading the files of a command, in pieces, and writing its text.
 #![tactic(auto)]
 
 mod inputs;
+mod intake;
+mod keeper;
 mod output;
+mod sources;
 #[cfg(test)]
 mod tests;
 
 pub use inputs::{Inputs, MAX_BYTES, Role, Stop, read_input, read_inputs};
+pub use keeper::Keeper;
 pub use output::put_all;
+pub use sources::{Source, read_source, read_whole};

@@ -1,4 +1,6 @@
-use crate::{Inputs, MAX_BYTES, Role, Stop, put_all, read_input, read_inputs};
+use crate::{
+    Inputs, Keeper, MAX_BYTES, Role, Source, Stop, put_all, read_input, read_inputs, read_source,
+};
 use host_io::{Failed, MemFiles, MemSink};
 use name_tables::Name;
 use sqlite_items::Items;
@@ -112,5 +114,40 @@ fn a_text_is_put_whole_or_up_to_the_fault(rt: HostRuntime) -> Result<(), Fail> {
     let mut sink = cut_sink(alloc, 2)?;
     assert_eq!(rt; put_all(&mut sink, b"holds\nproperty"), Err(Failed));
     assert_eq!(rt; sink.bytes(), b"holds".as_slice());
+    Ok(())
+}
+
+/// What `n` with so many bytes comes to where it is fed to a reader that keeps them, and the calls that it took.
+fn kept_length(
+    alloc: Global,
+    count: usize,
+    room: usize,
+) -> Result<(Result<usize, Stop>, u64), Memory> {
+    let mut files = long_file(alloc, count)?;
+    let name = Name::new(alloc, b"n")?;
+    let mut buffer = vec![in alloc; 0u8; room]?;
+    let source = Source {
+        role: Role::Formula,
+        name: &name,
+    };
+    let read = if buffer.is_empty() {
+        Err(Stop::Fault)
+    } else {
+        read_source(alloc, source, &mut files, &mut buffer, Keeper::new(alloc))
+    };
+    let length = match read {
+        Ok(Ok(bytes)) => Ok(bytes.len()),
+        Ok(Err(Memory)) => Err(Stop::Memory),
+        Err(stop) => Err(stop),
+    };
+    Ok((length, files.calls()))
+}
+
+#[test]
+fn a_reader_is_fed_through_a_buffer_of_any_size(rt: HostRuntime) -> Result<(), Fail> {
+    let alloc = rt.alloc();
+    assert_eq!(rt; kept_length(alloc, 100, 1)?, (Ok(100), 102));
+    assert_eq!(rt; kept_length(alloc, 100, 7)?, (Ok(100), 17));
+    assert_eq!(rt; kept_length(alloc, 100, 65_536)?, (Ok(100), 3));
     Ok(())
 }

@@ -1,1 +1,9 @@
+pub mod Each
+pub mod Elements
 pub mod Given
+pub mod Noted
+pub mod ReadRoles
+pub mod Weights
+pub mod Declaring
+pub mod Distinct
+pub mod OwnIds

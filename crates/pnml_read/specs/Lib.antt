@@ -1,2 +1,4 @@
+pub mod Each
 pub mod Nets
 pub mod Parts
+pub mod Instances

@@ -4,6 +4,7 @@
 mod children;
 mod guards;
 mod labels;
+mod laws;
 mod lists;
 mod reading;
 mod sorts;
@@ -11,6 +12,7 @@ mod terms;
 mod values;
 
 pub use doc_tree::Fault;
+pub use laws::small_tree_gives_its_net;
 pub use net_elements::ReadFault;
 pub use net_model::{
     Arc, Block, Guard, Kind, Label, Member, NamedSort, Net, Order, Partition, Place, RefKind,

@@ -6,11 +6,12 @@ ghost use Rattle.doc_model.specs.declared.tree.Element.{out-Element};
 use crate::labels::{condition_of, inscription_of, marking_of, partition_of, place_sort_of};
 use crate::sorts::sort_in;
 use crate::values::name_in;
-use colour_sorts::{NamedSort, Partition};
 use doc_model::Element;
 use name_tables::Name;
-use net_elements::{Kind, Role, is_passed_over, role_named};
-use net_model::{Arc, Net, Place, RefKind, Reference, Transition, VariableDecl};
+use net_elements::{Role, is_passed_over, role_named};
+use net_model::{
+    Arc, Kind, NamedSort, Net, Partition, Place, RefKind, Reference, Transition, VariableDecl,
+};
 use sqlite_items::Items;
 use std::alloc::Global;
 use wide_sums::Memory;

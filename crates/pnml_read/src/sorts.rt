@@ -4,10 +4,10 @@ ghost use Rattle.doc_model.specs.declared.tree.Element.{out-Element};
 ghost use Rattle.pnml_read.specs.Nets.{child, given, kept, sort_part};
 
 use crate::values::{name_in, span_in};
-use colour_sorts::SortTerm;
 use doc_model::Element;
 use name_tables::Name;
 use net_elements::{Role, is_passed_over, role_named};
+use net_model::SortTerm;
 use sqlite_items::Items;
 use std::alloc::Global;
 use wide_sums::Memory;

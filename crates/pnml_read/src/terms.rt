@@ -5,10 +5,9 @@ ghost use Rattle.pnml_read.specs.Nets.{child, given, kept, number_part, term_par
 
 use crate::sorts::sort_in;
 use crate::values::{bytes_in, name_in, signed, span_in, unsigned};
-use colour_sorts::Span;
 use doc_model::Element;
-use multiset_terms::Term;
 use net_elements::{Role, is_passed_over, role_named, trimmed};
+use net_model::{Span, Term};
 use sqlite_items::{Boxed, Items};
 use std::alloc::Global;
 use wide_sums::Memory;

@@ -2,10 +2,10 @@ ghost use Rattle.std.specs.Prelude.{◌≡◌, IfOk, codes};
 ghost use Rattle.net_elements.specs.Rules.{truth_of};
 ghost use Rattle.pnml_read.specs.Nets.{is_true, signed, span_part, text_in, unsigned};
 
-use colour_sorts::Span;
 use doc_model::Attribute;
 use name_tables::{Name, read_number};
 use net_elements::{truth_of, value_of};
+use net_model::Span;
 use std::alloc::Global;
 use wide_sums::Memory;
 

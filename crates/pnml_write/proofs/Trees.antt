@@ -1,15 +1,15 @@
 -- The trees of sorts, terms and guards with lists of parts, from the trees of their parts.
 use Rattle.std.proofs.Common.{◌≡◌, List, map, ap, ◌∙◌}
 use Rattle.std.proofs.lemmas.Simd.{map-map}
-use Rattle.colour_sorts.proofs.Layers.{term-Product}
-use Rattle.colour_sorts.specs.declared.written.SortTerm.{SortTerm}
-use Rattle.colour_sorts.specs.declared.written.SortTerm.TheVariants as sort
-use Rattle.multiset_terms.proofs.Layers.{fold-Add, fold-Tuple}
-use Rattle.multiset_terms.proofs.GuardLayers.{guard-And, guard-Or}
-use Rattle.multiset_terms.specs.declared.terms.Term.{Term}
-use Rattle.multiset_terms.specs.declared.terms.Term.TheVariants as term
-use Rattle.multiset_terms.specs.declared.terms.Guard.{Guard}
-use Rattle.multiset_terms.specs.declared.terms.Guard.TheVariants as guard
+use Rattle.net_model.proofs.Layers.{term-Product}
+use Rattle.net_model.specs.declared.sorts.SortTerm.{SortTerm}
+use Rattle.net_model.specs.declared.sorts.SortTerm.TheVariants as sort
+use Rattle.net_model.proofs.Layers.{fold-Add, fold-Tuple}
+use Rattle.net_model.proofs.Layers.{guard-And, guard-Or}
+use Rattle.net_model.specs.declared.terms.Term.{Term}
+use Rattle.net_model.specs.declared.terms.Term.TheVariants as term
+use Rattle.net_model.specs.declared.terms.Guard.{Guard}
+use Rattle.net_model.specs.declared.terms.Guard.TheVariants as guard
 use Rattle.net_elements.specs.declared.roles.Role.TheVariants as role
 use Rattle.pnml_write.specs.Canon.{guard_by_parts, guard_part_tree, guard_tree, holder, part, sort_by_parts, sort_tree, term_by_parts, term_tree}
 

@@ -5,22 +5,22 @@ use Rattle.doc_model.specs.declared.tree.Attribute.{Attribute}
 use Rattle.doc_model.specs.declared.tree.Element.{Element}
 use Rattle.doc_model.specs.Trees.{attribute, element}
 use Rattle.doc_model.specs.Texts.{document_text}
-use Rattle.colour_sorts.specs.declared.written.Span.{Span}
-use Rattle.colour_sorts.specs.declared.written.SortTerm.{SortTerm, fold-SortTerm}
-use Rattle.colour_sorts.specs.declared.written.SortTerm.TheOpen as sort
-use Rattle.colour_sorts.specs.declared.written.NamedSort.{NamedSort}
-use Rattle.colour_sorts.specs.declared.written.Member.{Member}
-use Rattle.colour_sorts.specs.declared.written.Member.TheVariants as member
-use Rattle.colour_sorts.specs.declared.written.Block.{Block}
-use Rattle.colour_sorts.specs.declared.written.Partition.{Partition}
-use Rattle.multiset_terms.specs.declared.terms.Order.{Order}
-use Rattle.multiset_terms.specs.declared.terms.Order.TheVariants as order
-use Rattle.multiset_terms.specs.declared.terms.Term.{Term, fold-Term}
-use Rattle.multiset_terms.specs.declared.terms.Term.TheOpen as term
-use Rattle.multiset_terms.specs.declared.terms.Guard.{Guard, fold-Guard}
-use Rattle.multiset_terms.specs.declared.terms.Guard.TheOpen as guard
-use Rattle.net_elements.specs.declared.kinds.Kind.{Kind}
-use Rattle.net_elements.specs.declared.kinds.Kind.TheVariants.{Pt, Symmetric}
+use Rattle.net_model.specs.declared.sorts.Span.{Span}
+use Rattle.net_model.specs.declared.sorts.SortTerm.{SortTerm, fold-SortTerm}
+use Rattle.net_model.specs.declared.sorts.SortTerm.TheOpen as sort
+use Rattle.net_model.specs.declared.sorts.NamedSort.{NamedSort}
+use Rattle.net_model.specs.declared.sorts.Member.{Member}
+use Rattle.net_model.specs.declared.sorts.Member.TheVariants as member
+use Rattle.net_model.specs.declared.sorts.Block.{Block}
+use Rattle.net_model.specs.declared.sorts.Partition.{Partition}
+use Rattle.net_model.specs.declared.terms.Order.{Order}
+use Rattle.net_model.specs.declared.terms.Order.TheVariants as order
+use Rattle.net_model.specs.declared.terms.Term.{Term, fold-Term}
+use Rattle.net_model.specs.declared.terms.Term.TheOpen as term
+use Rattle.net_model.specs.declared.terms.Guard.{Guard, fold-Guard}
+use Rattle.net_model.specs.declared.terms.Guard.TheOpen as guard
+use Rattle.net_model.specs.declared.kinds.Kind.{Kind}
+use Rattle.net_model.specs.declared.kinds.Kind.TheVariants.{Pt, Symmetric}
 use Rattle.net_elements.specs.declared.roles.Role.{Role}
 use Rattle.net_elements.specs.declared.roles.Role.TheVariants as role
 use Rattle.net_elements.specs.Table.{word_of}

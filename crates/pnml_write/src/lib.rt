@@ -5,9 +5,11 @@ mod counts;
 mod elements;
 mod guards;
 mod labels;
+mod laws;
 mod nodes;
 mod sorts;
 mod terms;
 mod writing;
 
+pub use laws::small_net_has_its_text;
 pub use writing::write_net;

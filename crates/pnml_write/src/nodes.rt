@@ -7,10 +7,12 @@ use crate::elements::{add_attribute, bare, branch, declared_id, leaf_with, one_a
 use crate::labels::{add_condition, add_inscription, add_marking, add_type};
 use crate::sorts::sort_tree;
 use crate::terms::{operator_tree, range_constant_tree};
-use colour_sorts::{Block, Member, NamedSort, Partition};
 use doc_model::{Element, TextWriter};
-use net_elements::{Kind, Role};
-use net_model::{Arc, Label, Place, RefKind, Reference, Transition, VariableDecl};
+use net_elements::Role;
+use net_model::{
+    Arc, Block, Kind, Label, Member, NamedSort, Partition, Place, RefKind, Reference, Transition,
+    VariableDecl,
+};
 use sqlite_items::Items;
 use std::alloc::Global;
 use wide_sums::Memory;

@@ -5,10 +5,10 @@ ghost use Rattle.pnml_write.specs.Canon.{branch, constant_tree, range_tree, sort
 use crate::elements::{
     add_attribute, bare, declared_id, holder, leaf_with, number_attribute, one_attribute,
 };
-use colour_sorts::{SortTerm, Span};
 use doc_model::Element;
 use name_tables::{Name, decimal};
 use net_elements::Role;
+use net_model::{SortTerm, Span};
 use sqlite_items::Items;
 use std::alloc::Global;
 use wide_sums::Memory;

@@ -6,10 +6,9 @@ use crate::elements::{
     around, around_two, bare, branch, holder, leaf_with, number_attribute, one_attribute, only,
 };
 use crate::sorts::{range_tree, sort_tree};
-use colour_sorts::Span;
 use doc_model::Element;
-use multiset_terms::Term;
 use net_elements::Role;
+use net_model::{Span, Term};
 use sqlite_items::Items;
 use std::alloc::Global;
 use wide_sums::Memory;

@@ -9,8 +9,8 @@ use crate::nodes::{
     variable_tree,
 };
 use doc_model::{Element, TextWriter};
-use net_elements::{Kind, Role, word_of};
-use net_model::{Arc, NamedSort, Net, Partition, Place, Reference, Transition, VariableDecl};
+use net_elements::{Role, word_of};
+use net_model::{Arc, Kind, NamedSort, Net, Partition, Place, Reference, Transition, VariableDecl};
 use sqlite_items::Items;
 use std::alloc::Global;
 use wide_sums::Memory;

@@ -1,5 +1,6 @@
 -- A place/transition net with its initial marking, its runs, and the markings that they reach (ISO/IEC 15909-1).
 use Rattle.std.specs.Prelude.{◌≡◌, ℕ, ◌^◌, ◌<◌, List, [], ◌∷◌, length, All, AllPairs, sum_by, slice_index_or}
+use Rattle.wide_sums.specs.Cells.{amount}
 use Rattle.pt_net.specs.declared.instances.Instance.{Instance}
 use Rattle.pt_net.specs.Instances.{origin_of, IsBefore}
 use Rattle.pt_net.specs.Markings.{IsInRange}
@@ -16,6 +17,24 @@ system_of initial instances = record { initial = initial; instances = instances 
 -- the instance of a number; where there is none, one that takes and adds nothing
 abbrev pub instance_at : NetSystem → ℕ → Instance
 instance_at net i = slice_index_or net.instances i (record { transition = 0; binding = 0; pre = []; post = [] })
+
+abbrev pub places : NetSystem → ℕ
+places net = length net.initial
+
+-- how many instances there are
+abbrev pub size : NetSystem → ℕ
+size net = length net.instances
+
+-- what the instance `i` takes from the place `p`, and what it puts there
+abbrev pub pre : NetSystem → ℕ → ℕ → ℕ
+pre net i p = amount p (instance_at net i).pre
+
+abbrev pub post : NetSystem → ℕ → ℕ → ℕ
+post net i p = amount p (instance_at net i).post
+
+-- how many cells the input rows have together
+abbrev pub input_entries : NetSystem → ℕ
+input_entries net = sum_by (λ t. length t.pre) net.instances
 
 -- what is true of each net: counts up to 2^63 - 1, places in range, origins that rise strictly, and fewer than 2^32 places, instances, input entries and output entries each
 pub record IsSystem (net : NetSystem) : Type 0 where

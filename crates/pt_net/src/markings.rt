@@ -2,10 +2,10 @@ ghost use Rattle.std.specs.Prelude.{◌≡◌, ℕ, ◌+◌, ◌^◌, ◌<◌, �
 ghost use Rattle.wide_sums.specs.Cells.{IsRow, amount};
 ghost use Rattle.pt_net.specs.Markings.{Covers, IsShort, IsFull, IsInRange};
 
-use crate::instances::Instance;
+use crate::rows::count_at;
 use std::marker::Model;
 use thiserror::Error;
-use wide_sums::{Cell, Row};
+use wide_sums::Cell;
 
 const MOST: u64 = 9_223_372_036_854_775_807;
 
@@ -38,7 +38,6 @@ impl Model for Marking {
 
 impl Marking {
     ghost use Rattle.pt_net.specs.Markings.{Covers, IsShort, IsFull, IsInRange};
-    ghost use Rattle.pt_net.specs.Firing.{Fires};
 
     /// The marking with these counts, each at most 2^63 - 1.
     pub fn of(counts: Vec<u64>) -> Marking
@@ -66,32 +65,36 @@ impl Marking {
     }
 
     /// Whether the marking has what a row takes.
-    pub(crate) fn covers(&self, row: &Row) -> bool
-        requires { IsInRange (length self.now) row.now }
+    pub(crate) fn covers(&self, row: &[Cell]) -> bool
+        requires row { IsRow row.now }
+        requires in_range { IsInRange (length self.now) row.now }
         ensures { MatchBool result (Covers self.now row.now) (IsShort self.now row.now) }
     {
-        covers(self.counts.as_slice(), row.cells())
+        covers(self.counts.as_slice(), row)
     }
 
-    /// Fires an instance of a net with as many places.
-    pub(crate) fn fire(&mut self, instance: &Instance) -> Result<(), FireFault>
-        requires pre { IsInRange (length self.old) instance.now.pre }
-        requires post { IsInRange (length self.old) instance.now.post }
-        ensures fires { OnOk result (Fires self.old instance.now self.new) }
+    /// Takes away what the row `pre` has and adds what `post` has.
+    pub(crate) fn fire(&mut self, pre: &[Cell], post: &[Cell]) -> Result<(), FireFault>
+        requires pre { IsRow pre.now }
+        requires post { IsRow post.now }
+        requires pre_in_range { IsInRange (length self.old) pre.now }
+        requires post_in_range { IsInRange (length self.old) post.now }
+        ensures covered { OnOk result (Covers self.old pre.now) }
+        ensures as_long { OnOk result (length self.new ≡ length self.old) }
+        ensures moved { OnOk result ((p : ℕ) → slice_index self.new p + amount p pre.now ≡ slice_index self.old p + amount p post.now) }
         ensures within { OnOk result (All (λ k. k < 2 ^ 63) self.new) }
-        ensures not_enabled { result ≡ Err FireFault.NotEnabled → IsShort self.old instance.now.pre }
-        ensures count { result ≡ Err FireFault.Count → Covers self.old instance.now.pre
-            × IsFull self.old instance.now.pre instance.now.post }
+        ensures not_enabled { result ≡ Err FireFault.NotEnabled → IsShort self.old pre.now }
+        ensures count { result ≡ Err FireFault.Count → Covers self.old pre.now × IsFull self.old pre.now post.now }
         ensures err { OnErr result (self.new ≡ self.old) }
     {
-        if !self.covers(&instance.pre) {
+        if !self.covers(pre) {
             return Err(FireFault::NotEnabled);
         }
-        if !has_room(self.counts.as_slice(), &instance.pre, &instance.post) {
+        if !has_room(self.counts.as_slice(), pre, post) {
             return Err(FireFault::Count);
         }
-        take_row(self.counts.as_mut_slice(), instance.pre.cells());
-        put_row(self.counts.as_mut_slice(), instance.post.cells());
+        take_row(self.counts.as_mut_slice(), pre);
+        put_row(self.counts.as_mut_slice(), post);
         Ok(())
     }
 }
@@ -111,15 +114,17 @@ fn covers(counts: &[u64], row: &[Cell]) -> bool
 }
 
 // Whether each place can take what `post` adds there, once what `pre` takes is gone.
-fn has_room(counts: &[u64], pre: &Row, post: &Row) -> bool
+fn has_room(counts: &[u64], pre: &[Cell], post: &[Cell]) -> bool
+    requires pre { IsRow pre.now }
+    requires post { IsRow post.now }
     requires counts { All (λ k. k < 2 ^ 63) counts.now }
     requires covered { Covers counts.now pre.now }
     requires in_range { IsInRange (length counts.now) post.now }
     ensures { MatchBool result ((p : ℕ) → slice_index counts.now p + amount p post.now < 2 ^ 63 + amount p pre.now)
         (IsFull counts.now pre.now post.now) }
 {
-    for cell in post.cells() {
-        let left = counts[cell.at as usize] - pre.count(cell.at);
+    for cell in post {
+        let left = counts[cell.at as usize] - count_at(pre, cell.at);
         if cell.count > MOST - left {
             return false;
         }

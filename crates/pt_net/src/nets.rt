@@ -1,8 +1,10 @@
-ghost use Rattle.std.specs.Prelude.{◌≡◌, ◌≢◌, ◌^◌, ◌<◌, length, slice_index, All, IfOk, IfSome, IfNone, MatchBool, OnOk, OnErr};
+ghost use Rattle.std.specs.Prelude.{◌≡◌, ◌≢◌, ◌^◌, ◌<◌, length, slice_index, sum_by, All, IfOk, IfSome, IfNone, MatchBool, OnOk, OnErr};
 ghost use Rattle.wide_sums.specs.Cells.{IsRow, amount};
 
+use crate::arrays::PackedInstances;
 use crate::instances::{Instance, Origin, Side};
 use crate::markings::{FireFault, Marking};
+use crate::rows::count_at;
 use std::alloc::Global;
 use std::marker::Model;
 use wide_sums::{Cell, Memory};
@@ -15,7 +17,7 @@ use wide_sums::{Cell, Memory};
 #[derive(Debug, Drop)]
 pub struct PtNet {
     initial: Vec<u64>,
-    instances: Vec<Instance>,
+    instances: PackedInstances,
 }
 
 impl Model for PtNet {
@@ -23,9 +25,90 @@ impl Model for PtNet {
 
     ghost Value = { NetSystem };
 
-    ghost view = { λ n. system_of n.initial.items n.instances.items };
+    ghost view = { λ n. system_of n.initial.items n.instances };
 
-    ghost invariant = { λ n. IsSystem (system_of n.initial.items n.instances.items) };
+    ghost invariant = { λ n. IsSystem (system_of n.initial.items n.instances) };
+}
+
+// How many cells the input rows have together, and how many the output rows.
+fn cells_of(instances: &[Instance]) -> (usize, usize)
+    requires inputs { sum_by (λ t. length t.pre) instances.now < 2 ^ 32 }
+    requires outputs { sum_by (λ t. length t.post) instances.now < 2 ^ 32 }
+    ensures inputs { result.0 ≡ sum_by (λ t. length t.pre) instances.now }
+    ensures outputs { result.1 ≡ sum_by (λ t. length t.post) instances.now }
+{
+    let mut inputs = 0;
+    let mut outputs = 0;
+    for instance in instances {
+        inputs += instance.pre.cells().len();
+        outputs += instance.post.cells().len();
+    }
+    (inputs, outputs)
+}
+
+/// A net whose instances are given one after another. No row is held apart from the net's arrays.
+#[derive(Debug, Drop)]
+pub struct PtNetBuilder {
+    initial: Vec<u64>,
+    instances: PackedInstances,
+}
+
+impl Model for PtNetBuilder {
+    ghost use Rattle.pt_net.specs.Systems.{NetSystem, system_of};
+
+    ghost Value = { NetSystem };
+
+    ghost view = { λ n. system_of n.initial.items n.instances };
+}
+
+impl PtNetBuilder {
+    ghost use Rattle.std.specs.Prelude.{[], ◌∷◌, ◌++◌, ◌+◌, sum_by};
+    ghost use Rattle.pt_net.specs.Systems.{IsSystem, system_of};
+    ghost use Rattle.pt_net.specs.InArrays.{instance_from};
+
+    /// A net with these initial counts and without instances, and room for so many instances, input
+    /// cells and output cells. More are taken too.
+    pub fn with_capacity(
+        alloc: Global,
+        initial: Vec<u64>,
+        instances: usize,
+        inputs: usize,
+        outputs: usize,
+    ) -> Result<PtNetBuilder, Memory>
+        ensures { IfOk result (λ builder. builder ≡ system_of initial.items []) }
+    {
+        let instances = PackedInstances::with_capacity(alloc, instances, inputs, outputs)?;
+        Ok(PtNetBuilder { initial, instances })
+    }
+
+    /// The number of instances so far.
+    pub fn instances(&self) -> usize
+        ensures { result ≡ length self.now.instances }
+    {
+        self.instances.count()
+    }
+
+    /// Puts an instance with these rows behind the others. After `Memory` the builder is unchanged.
+    pub fn push(&mut self, origin: Origin, inputs: &[Cell], outputs: &[Cell]) -> Result<(), Memory>
+        requires inputs { IsRow inputs.now }
+        requires outputs { IsRow outputs.now }
+        requires few_inputs { sum_by (λ t. length t.pre) self.old.instances + length inputs.now < 2 ^ 32 }
+        requires few_outputs { sum_by (λ t. length t.post) self.old.instances + length outputs.now < 2 ^ 32 }
+        ensures ok { OnOk result (self.new ≡ system_of self.old.initial (self.old.instances ++ instance_from origin inputs.now outputs.now ∷ [])) }
+        ensures err { OnErr result (self.new ≡ self.old) }
+    {
+        self.instances.push(origin, inputs, outputs)
+    }
+
+    /// The net. Its initial counts are at most 2^63 - 1, the origins rise strictly, and each row has
+    /// places of the net; there are fewer than 2^32 places and instances.
+    pub fn finish(self) -> PtNet
+        requires { IsSystem self }
+        ensures { result ≡ self }
+    {
+        let PtNetBuilder { initial, instances } = self;
+        PtNet { initial, instances }
+    }
 }
 
 impl PtNet {
@@ -35,11 +118,34 @@ impl PtNet {
     ghost use Rattle.pt_net.specs.Systems.{IsSystem, system_of, instance_at};
 
     /// The net with these initial counts and instances.
-    pub fn new(_alloc: Global, initial: Vec<u64>, instances: Vec<Instance>) -> Result<PtNet, Memory>
+    pub fn new(alloc: Global, initial: Vec<u64>, instances: Vec<Instance>) -> Result<PtNet, Memory>
         requires { IsSystem (system_of initial.items instances.items) }
         ensures { IfOk result (λ net. net ≡ system_of initial.items instances.items) }
     {
-        Ok(PtNet { initial, instances })
+        let (inputs, outputs) = cells_of(instances.as_slice());
+        let mut builder = PtNetBuilder::with_capacity(
+            alloc,
+            initial,
+            instances.len(),
+            inputs,
+            outputs,
+        )?;
+        for instance in instances.as_slice() {
+            builder.push(
+                instance.origin(),
+                instance.pre.cells(),
+                instance.post.cells(),
+            )?;
+        }
+        Ok(builder.finish())
+    }
+
+    /// The initial counts of all places.
+    pub fn initial_counts(&self) -> &[u64]
+        ensures counts { result.now ≡ self.now.initial }
+        ensures system { IsSystem self.now }
+    {
+        self.initial.as_slice()
     }
 
     /// The number of places.
@@ -53,7 +159,7 @@ impl PtNet {
     pub fn instances(&self) -> u32
         ensures { result ≡ length self.now.instances }
     {
-        self.instances.len() as u32
+        self.instances.count() as u32
     }
 
     /// The initial count of a place.
@@ -70,8 +176,7 @@ impl PtNet {
         requires { instance < length self.now.instances }
         ensures { result ≡ origin_of (instance_at self.now instance) }
     {
-        let found = &self.instances[instance as usize];
-        found.origin()
+        self.instances.origin(instance)
     }
 
     /// The count of a place in a row of an instance, 0 where there is no entry.
@@ -80,8 +185,7 @@ impl PtNet {
         ensures count { result ≡ amount place (row_of side (instance_at self.now instance)) }
         ensures within { result < 2 ^ 63 }
     {
-        let found = &self.instances[instance as usize];
-        found.row(side).count(place)
+        count_at(self.instances.cells(side, instance), place)
     }
 
     /// The cells of a row of an instance, by rising place.
@@ -91,8 +195,7 @@ impl PtNet {
         ensures row { IsRow result.now }
         ensures in_range { IsInRange (length self.now.initial) result.now }
     {
-        let found = &self.instances[instance as usize];
-        found.row(side).cells()
+        self.instances.cells(side, instance)
     }
 
     /// The instance that comes from `origin`. `None` comes exactly where there is none.
@@ -101,13 +204,7 @@ impl PtNet {
         ensures found { IfSome result (λ i. origin_of (instance_at self.now i) ≡ origin.now) }
         ensures none { IfNone result (All (λ t. origin_of t ≢ origin.now) self.now.instances) }
     {
-        match self
-            .instances
-            .binary_search_by_key(origin, |instance| instance.origin())
-        {
-            Ok(found) => Some(found as u32),
-            Err(_) => None,
-        }
+        self.instances.find(origin)
     }
 
     /// The initial marking.
@@ -125,8 +222,7 @@ impl PtNet {
         ensures { MatchBool result (Covers marking.now (instance_at self.now instance).pre)
             (IsShort marking.now (instance_at self.now instance).pre) }
     {
-        let fired = &self.instances[instance as usize];
-        marking.covers(&fired.pre)
+        marking.covers(self.cells(Side::Pre, instance))
     }
 
     /// Fires an instance: takes its input counts away and adds its output counts.
@@ -145,7 +241,9 @@ impl PtNet {
             × IsFull marking.old (instance_at self.now instance).pre (instance_at self.now instance).post }
         ensures err { OnErr result (marking.new ≡ marking.old) }
     {
-        let fired = &self.instances[instance as usize];
-        marking.fire(fired)
+        marking.fire(
+            self.cells(Side::Pre, instance),
+            self.cells(Side::Post, instance),
+        )
     }
 }

@@ -4,8 +4,10 @@ ghost use Rattle.pt_net.specs.Markings.{IsInRange};
 use super::*;
 use name_tables::Ids;
 use std::alloc::Global;
+use std::marker::Brand;
+use std::sync::ledger::{Blank, Ledger};
 use std::test::Fail;
-use wide_sums::{Cell, Memory, Row};
+use wide_sums::{Cell, Memory, Row, Steps};
 
 // 2^63 - 1, the largest count.
 const MOST: u64 = 9_223_372_036_854_775_807;
@@ -104,4 +106,48 @@ fn a_layout_without_places_has_one_start(rt: HostRuntime) -> Result<(), Fail> {
     assert_eq!(rt; layout.start(0), 0);
     assert_eq!(rt; layout.bindings().len(), 0);
     Ok(())
+}
+
+fn first_entry<L: Ledger>(blank: Blank, packed: &Packed) -> Entry
+    requires name { blank.name ≡ L.name }
+    requires parts { blank.parts ≡ L.parts }
+    requires some { blank.parts ≡ 1 }
+    requires entry { 0 < length packed.now }
+{
+    let mut steps = Steps::start(blank.open::<L>());
+    packed.entry(0, &mut steps)
+}
+
+#[test]
+fn input_entries_are_packed(rt: HostRuntime) -> Result<(), Fail> {
+    let alloc = rt.alloc();
+    let net = small_net(alloc, 4, single(alloc, 2)?, single(alloc, 3)?)?;
+    let packed = Packed::of(alloc, &net)?;
+    let entry = Entry {
+        place: 0,
+        instance: 0,
+        weight: 2,
+    };
+    assert_eq!(rt; packed.entries(), 1);
+    assert_eq!(rt; packed.first(0), 0);
+    assert_eq!(rt; packed.first(1), 1);
+    if packed.entries() > 0 {
+        assert_eq!(rt; first_entry::<Brand>(Blank::new(1), &packed), entry);
+    }
+    Ok(())
+}
+
+fn is_shared<T: Send + Sync>() {}
+
+#[test]
+fn nets_are_sent_and_shared() {
+    is_shared::<PtNet>();
+    is_shared::<PtNetBuilder>();
+    is_shared::<Instance>();
+    is_shared::<Layout>();
+    is_shared::<Marking>();
+    is_shared::<Packed>();
+    is_shared::<Row>();
+    is_shared::<Cell>();
+    is_shared::<Ids>();
 }

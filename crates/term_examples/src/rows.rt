@@ -1,7 +1,7 @@
 //! What rows say of terms and guards. A row is a kind and what is said, `|`, and a term or a guard.
 
 ghost use Rattle.std.specs.Prelude.{IfOk};
-ghost use Rattle.term_scopes.specs.Usable.{IsUsable};
+ghost use Rattle.multiset_terms.specs.Usable.{IsUsable};
 
 use crate::steps::{guard, term};
 use colour_sorts::Sort;
@@ -88,7 +88,7 @@ fn truth_of(
 }
 
 /// Whether a guard is `true` or `false`.
-fn is_truth(alloc: Global, scope: &Scope, indices: &[u32], said: &[u8], text: &[u8]) -> bool
+pub fn is_truth(alloc: Global, scope: &Scope, indices: &[u32], said: &[u8], text: &[u8]) -> bool
     requires { IsUsable scope.now.domains scope.now.variables }
 {
     match truth_of(alloc, scope, indices, text) {
@@ -107,7 +107,7 @@ fn compiled(alloc: Global, scope: &Scope, marking: bool, text: &[u8]) -> Result<
     }
 }
 
-fn compiled_guard(alloc: Global, scope: &Scope, text: &[u8]) -> Result<CGuard, TermFault>
+pub fn compiled_guard(alloc: Global, scope: &Scope, text: &[u8]) -> Result<CGuard, TermFault>
     requires { IsUsable scope.now.domains scope.now.variables }
 {
     match guard(alloc, text) {

@@ -1,5 +1,5 @@
 ghost use Rattle.std.specs.Prelude.{IfOk};
-ghost use Rattle.term_scopes.specs.Usable.{IsUsable};
+ghost use Rattle.multiset_terms.specs.Usable.{IsUsable};
 
 use colour_sorts::{NamedSort, SortTerm, Span};
 use multiset_terms::{Guard, Order, Term};

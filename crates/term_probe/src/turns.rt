@@ -1,14 +1,14 @@
 ghost use Rattle.multiset_terms.specs.Standing.{CanBeEvaluated, CanBeJudged};
-ghost use Rattle.term_scopes.specs.Usable.{IsUsable};
+ghost use Rattle.multiset_terms.specs.Usable.{IsUsable};
 
 use crate::made;
 use colour_sorts::Domains;
 use multiset_terms::{
-    CGuard, CTerm, Guard, Term, compile_guard, compile_term, eval, holds, is_block,
+    CGuard, CTerm, Guard, Term, compile_guard, compile_term, eval, holds, is_binding, is_block,
 };
 use std::alloc::Global;
 use std::hint::spin_loop;
-use term_scopes::{Scope, is_binding};
+use term_scopes::Scope;
 
 /// How many cells the value of a term has, in so many turns together.
 fn cells_in_turns(

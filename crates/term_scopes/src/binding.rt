@@ -1,10 +1,8 @@
-ghost use Rattle.std.specs.Prelude.{◌≡◌, true};
-ghost use Rattle.term_scopes.specs.Usable.{IsBinding, IsUsable};
+ghost use Rattle.multiset_terms.specs.Usable.{IsUsable};
 
 use crate::scope::Scope;
-use colour_sorts::Domains;
 use multiset_terms::{
-    EvalFault, Guard, Term, TermFault, Variables, compile_guard, compile_term, eval, holds,
+    EvalFault, Guard, Term, TermFault, compile_guard, compile_term, eval, holds, is_binding,
     is_block,
 };
 use std::alloc::Global;
@@ -21,23 +19,6 @@ pub enum ExampleFault {
     Binding,
     /// The term has no value.
     NoValue(EvalFault),
-}
-
-/// Whether there is one index for each variable, below the number of colours of its sort.
-pub fn is_binding(domains: &Domains, variables: &Variables, indices: &[u32]) -> bool
-    requires { IsUsable domains.now variables.now }
-    ensures { result ≡ true → IsBinding domains.now variables.now indices.now }
-{
-    let sorts = variables.sorts();
-    if indices.len() != sorts.len() {
-        return false;
-    }
-    for at in 0..sorts.len() {
-        if indices[at] >= domains.size(&sorts[at]) {
-            return false;
-        }
-    }
-    true
 }
 
 /// The value of a term that is no block.

@@ -4,5 +4,5 @@
 mod binding;
 mod scope;
 
-pub use binding::{ExampleFault, is_binding, truth, value};
+pub use binding::{ExampleFault, truth, value};
 pub use scope::{Scope, ScopeFault, declared, written};

@@ -1,8 +1,8 @@
-ghost use Rattle.std.specs.Prelude.{IfOk};
+ghost use Rattle.std.specs.Prelude.{◌≡◌, length, IfOk};
 ghost use Rattle.std.specs.List.{IsDistinct};
 ghost use Rattle.std.specs.Str.{bytes_eq};
 ghost use Rattle.multiset_terms.specs.Parts.{AreSized, IsDeclared};
-ghost use Rattle.term_scopes.specs.Usable.{IsUsable};
+ghost use Rattle.multiset_terms.specs.Usable.{IsUsable};
 
 use colour_sorts::{Domains, NamedSort, Partition, ResolveFault, Rule, Sort};
 use colour_tables::{BuildFault, build, distinct_ids, partitions, sorts};
@@ -86,6 +86,7 @@ fn variables_of(
 ) -> Result<Variables, ScopeFault>
     requires { IsDeclared domains.now }
     ensures distinct { IfOk result (λ variables. IsDistinct bytes_eq variables.ids) }
+    ensures even { IfOk result (λ variables. length variables.ids ≡ length variables.sorts) }
     ensures sized { IfOk result (λ variables. AreSized domains.now.constants variables.sorts) }
 {
     let ids = match distinct(alloc, variables) {

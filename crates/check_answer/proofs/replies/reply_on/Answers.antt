@@ -4,7 +4,7 @@ use Rattle.plain_model.specs.Obligations.{judgement}
 use Rattle.plain_model.specs.Plain.{IsPlainCertificate, IsPlainCount}
 use Rattle.plain_model.specs.Report.{report}
 use Rattle.plain_judge.proofs.Order.{distinct_places}
-use Rattle.check_answer.specs.Outcomes.{outcome_of}
+use Rattle.check_answer.specs.Verdicts.{outcome_of}
 use Rattle.check_answer.proofs.replies.reply_on.Goals as goal
 
 pub numbered_property-requires : goal.numbered_property-requires

@@ -1,6 +1,6 @@
 use Rattle.std.proofs.Common.{◌<◌, ◌++◌, ◌∷◌, [], ap, sym, ◌∙◌, arith, length, take}
 use Rattle.std.proofs.lemmas.List.{get_or-map, length-map, take_more}
-use Rattle.colour_sorts.specs.Naming.{constants_in, constants_of}
+use Rattle.net_model.specs.Ids.{constants_in, constants_of}
 use Rattle.colour_sorts.proofs.Grouped.{distinct-next, few-next}
 use Rattle.colour_sorts.proofs.building.constants_of_sorts.Goals as goal
 

@@ -1,5 +1,5 @@
 use Rattle.std.proofs.Common.{◌≡◌, take}
-use Rattle.colour_sorts.specs.Naming.{constants_of}
+use Rattle.net_model.specs.Ids.{constants_of}
 use Rattle.colour_sorts.proofs.building.constants_of_sorts.Given as goal
 
 abbrev pub invariant-loop-sort : goal.invariant-loop-sort

@@ -1,6 +1,6 @@
 use Rattle.std.proofs.Common.{[], ap, sym, ◌∙◌, arith}
 use Rattle.std.proofs.lemmas.List.{get_or-map, length-map}
-use Rattle.colour_sorts.specs.Naming.{ids_of}
+use Rattle.net_model.specs.Ids.{ids_of}
 use Rattle.colour_sorts.proofs.Grouped.{add-next}
 use Rattle.colour_sorts.proofs.building.ids_of_sorts.Goals as goal
 

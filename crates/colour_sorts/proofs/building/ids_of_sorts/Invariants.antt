@@ -1,5 +1,5 @@
 use Rattle.std.proofs.Common.{◌≡◌, take}
-use Rattle.colour_sorts.specs.Naming.{ids_of}
+use Rattle.net_model.specs.Ids.{ids_of}
 use Rattle.colour_sorts.proofs.building.ids_of_sorts.Given as goal
 
 abbrev pub invariant-loop-sort : goal.invariant-loop-sort

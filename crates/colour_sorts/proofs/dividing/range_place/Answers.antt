@@ -3,7 +3,7 @@ use Rattle.std.specs.Prelude.{map, int_le, ◌&&◌}
 use Rattle.colour_sorts.specs.Colours.{span_numbers}
 use Rattle.colour_sorts.specs.Filling.{IsMemberAt}
 use Rattle.colour_sorts.specs.declared.sorts.Colour.TheVariants as variants
-use Rattle.colour_sorts.specs.declared.written.Member.TheVariants as members
+use Rattle.net_model.specs.declared.sorts.Member.TheVariants as members
 use Rattle.colour_sorts.proofs.Members.{member-Range, number-place, range-other, spans-same}
 use Rattle.colour_sorts.proofs.dividing.range_place.Goals as goal
 

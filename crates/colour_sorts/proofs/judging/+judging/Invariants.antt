@@ -1,8 +1,8 @@
 use Rattle.std.proofs.Common.{◌≡◌, ◌<◌, ◌≤◌, ℕ, List, drop, length}
-use Rattle.colour_sorts.specs.declared.written.NamedSort.{NamedSort}
+use Rattle.net_model.specs.declared.sorts.NamedSort.{NamedSort}
 use Rattle.colour_sorts.specs.Colours.{constants_at}
 use Rattle.colour_sorts.specs.Judging.{AreCapped, AreSettled}
-use Rattle.colour_sorts.specs.Naming.{constants_of, ids_of}
+use Rattle.net_model.specs.Ids.{constants_of, ids_of}
 use Rattle.colour_sorts.proofs.Products.{IsGoing}
 use Rattle.colour_sorts.proofs.judging.+judging.Given as goal
 

@@ -1,6 +1,6 @@
 use Rattle.std.proofs.Common.{◌<◌, ◌++◌, ◌∷◌, [], ap, sym, ◌∙◌, arith, length, map, take}
 use Rattle.std.proofs.lemmas.List.{get_or-map, length-map, take_more}
-use Rattle.colour_sorts.specs.Domain.{element_ids}
+use Rattle.net_model.specs.Ids.{element_ids}
 use Rattle.colour_sorts.proofs.Grouped.{distinct-next, few-next}
 use Rattle.colour_sorts.proofs.partitions.elements_of_partitions.Goals as goal
 

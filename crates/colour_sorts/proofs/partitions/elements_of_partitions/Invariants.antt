@@ -1,5 +1,5 @@
 use Rattle.std.proofs.Common.{◌≡◌, map, take}
-use Rattle.colour_sorts.specs.Domain.{element_ids}
+use Rattle.net_model.specs.Ids.{element_ids}
 use Rattle.colour_sorts.proofs.partitions.elements_of_partitions.Given as goal
 
 abbrev pub invariant-loop-partition : goal.invariant-loop-partition

@@ -1,6 +1,5 @@
 use Rattle.std.proofs.Common.{◌++◌, ap, ◌∙◌, take}
-use Rattle.colour_sorts.specs.Groups.{names_in}
-use Rattle.colour_sorts.specs.Naming.{constants_in, constants_of}
+use Rattle.net_model.specs.Ids.{constants_in, constants_of, names_in}
 use Rattle.colour_tables.proofs.NewNames.{more-names}
 use Rattle.colour_tables.proofs.apart.constants_of_sorts.Goals as goal
 

@@ -1,6 +1,5 @@
 use Rattle.std.proofs.Common.{◌≡◌, take}
-use Rattle.colour_sorts.specs.Groups.{names_in}
-use Rattle.colour_sorts.specs.Naming.{constants_of}
+use Rattle.net_model.specs.Ids.{constants_of, names_in}
 use Rattle.colour_tables.proofs.apart.constants_of_sorts.Given as goal
 
 abbrev pub invariant-loop-sort : goal.invariant-loop-sort

@@ -1,6 +1,5 @@
 use Rattle.std.proofs.Common.{◌++◌, ap, ◌∙◌, map, take}
-use Rattle.colour_sorts.specs.Domain.{element_ids}
-use Rattle.colour_sorts.specs.Groups.{names_in}
+use Rattle.net_model.specs.Ids.{element_ids, names_in}
 use Rattle.colour_tables.proofs.NewNames.{more-names}
 use Rattle.colour_tables.proofs.apart.ids_of_elements.Goals as goal
 

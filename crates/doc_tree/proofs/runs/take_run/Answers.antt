@@ -1,30 +1,50 @@
-use Rattle.std.proofs.Common.{◌≡◌, ◌∙◌, ◌++◌, ap, sym, refl, take, arith, false}
+use Rattle.std.proofs.Common.{◌++◌, ap, sym, refl, take, arith, false}
 use Rattle.doc_tree.specs.declared.places.Place.TheVariants as place
 use Rattle.doc_tree.specs.declared.places.Dashes.TheVariants.{Neither}
-use Rattle.doc_tree.proofs.TakenRuns.{text_taken, text_not_taken, many, moved, length_more, stand, no_more, tag_name_run, key_run, value_run, close_run, target_run, comment_run, instruction_run}
+use Rattle.doc_tree.proofs.Forward.{blank_white, after_key_white, equals_white}
+use Rattle.doc_tree.proofs.TakenRuns.{white_taken, many, moved, length_more, stand, no_more, tag_name_run, key_run, value_run, target_run, comment_run, instruction_run}
+use Rattle.doc_tree.proofs.TakenTokens.{if_ok}
 use Rattle.doc_tree.proofs.runs.take_run.Goals as goal
 
-pub returns-then-branch-clause-read : goal.returns-then-branch-clause-read
-returns-then-branch-clause-read c r count b h =
-    let bytes = c.args.bytes.now in
-    let n = c.run-count.result in
-    many c.args.place.now c.add_text.new.self r count n b bytes c.run-count.ensures.within
-    (text_taken c.args.place.now c.args.opens.now c.add_text.new.self (take n bytes) c.in_ok-add_text-in-Between.field-0 c.in_ok-add_text-in-Between.ensures c.in-Between.is c.run-count.ensures.all c.if-branch.true r count b h)
+pub returns-in-Between-clause-read : goal.returns-in-Between-clause-read
+returns-in-Between-clause-read c =
+    let os = c.args.opens.now in
+    let new = c.take_text.new.opens in
+    if_ok c.take_text.result _ _
+    (λ n read r count b h. moved place.Between c.args.place.now new new r _ _ (sym c.in-Between.is) refl (read r count b (moved c.args.place.now place.Between os os r count b c.in-Between.is refl h)))
+    c.take_text.ensures.read
 
-pub returns-else-branch-clause-read : goal.returns-else-branch-clause-read
-returns-else-branch-clause-read c r count b h =
-    text_not_taken c.args.place.now c.args.opens.now c.add_text.new.self (take c.run-count.result c.args.bytes.now) c.in_ok-add_text-in-Between.field-0 c.in_ok-add_text-in-Between.ensures c.if-branch.false r count b h
+pub returns-in-Blank-clause-read : goal.returns-in-Blank-clause-read
+returns-in-Blank-clause-read c r count b h =
+    let w = c.in-Blank in
+    let os = c.args.opens.now in
+    let run = c.run in
+    white_taken c.args.place.now (place.Blank w.field-0) os r count run.result b c.args.bytes.now w.is (blank_white w.field-0 os r) (λ at. refl) run.ensures.within run.ensures.all h
+
+pub returns-in-AfterKey-clause-read : goal.returns-in-AfterKey-clause-read
+returns-in-AfterKey-clause-read c r count b h =
+    let w = c.in-AfterKey in
+    let os = c.args.opens.now in
+    let run = c.run-in-AfterKey in
+    white_taken c.args.place.now (place.AfterKey w.field-0 w.field-1) os r count run.result b c.args.bytes.now w.is (after_key_white w.field-0 w.field-1 os r) (λ at. refl) run.ensures.within run.ensures.all h
+
+pub returns-in-Equals-clause-read : goal.returns-in-Equals-clause-read
+returns-in-Equals-clause-read c r count b h =
+    let w = c.in-Equals in
+    let os = c.args.opens.now in
+    let run = c.run-in-Equals in
+    white_taken c.args.place.now (place.Equals w.field-0 w.field-1) os r count run.result b c.args.bytes.now w.is (equals_white w.field-0 w.field-1 os r) (λ at. refl) run.ensures.within run.ensures.all h
 
 pub returns-in_ok-append-in-Value-clause-read : goal.returns-in_ok-append-in-Value-clause-read
 returns-in_ok-append-in-Value-clause-read c r count b h =
     let w = c.in-Value in
     let bytes = c.args.bytes.now in
-    let n = c.run-count-in-Value.result in
+    let n = c.run-count.result in
     let os = c.args.opens.now in
-    many (place.Value w.field-0 w.field-1 w.quote c.append.new.self) os r count n b bytes c.run-count-in-Value.ensures.within
+    many (place.Value w.field-0 w.field-1 w.quote c.append.new.self) os r count n b bytes c.run-count.ensures.within
     (moved (place.Value w.field-0 w.field-1 w.quote (w.value ++ take n bytes)) (place.Value w.field-0 w.field-1 w.quote c.append.new.self) os os r _ _
     (ap (λ v. place.Value w.field-0 w.field-1 w.quote v) (sym c.in_ok-append-in-Value.ensures.appended)) refl
-    (value_run (take n bytes) w.field-0 w.field-1 w.quote w.value os r count b c.run-count-in-Value.ensures.all
+    (value_run (take n bytes) w.field-0 w.field-1 w.quote w.value os r count b c.run-count.ensures.all
     (moved c.args.place.now (place.Value w.field-0 w.field-1 w.quote w.value) os os r count b w.is refl h)))
 
 pub returns-in_ok-count-in-TagName-clause-read : goal.returns-in_ok-count-in-TagName-clause-read
@@ -49,22 +69,16 @@ returns-in_ok-count-in-Key-clause-read c r count b h =
     (moved (place.Key w.field-0 (w.name ++ take n bytes)) (place.Key w.field-0 c.take_name-in-Key.new.name) os os r _ _ (ap (λ m. place.Key w.field-0 m) (sym taken.appended)) refl
     (key_run (take n bytes) w.field-0 w.name os r count b taken.all (moved c.args.place.now (place.Key w.field-0 w.name) os os r count b w.is refl h)))
 
-pub returns-then-read-gt0-clause-read : goal.returns-then-read-gt0-clause-read
-returns-then-read-gt0-clause-read c r count b h =
+pub returns-in-Close-clause-read : goal.returns-in-Close-clause-read
+returns-in-Close-clause-read c r count b h =
     let os = c.args.opens.now in
-    no_more (place.Close c.in-Close.read) os r count b (moved c.args.place.now (place.Close c.in-Close.read) os os r count b c.in-Close.is refl h)
+    c.take_ended_name.ensures.read r count b (moved c.args.place.now (place.Close c.in-Close.read) os os r count b c.in-Close.is refl h)
 
-pub returns-in-None-clause-read : goal.returns-in-None-clause-read
-returns-in-None-clause-read c r count b h =
+pub returns-in-CloseWhite-clause-read : goal.returns-in-CloseWhite-clause-read
+returns-in-CloseWhite-clause-read c r count b h =
     let os = c.args.opens.now in
-    no_more (place.Close c.in-Close.read) os r count b (moved c.args.place.now (place.Close c.in-Close.read) os os r count b c.in-Close.is refl h)
-
-pub returns-in-Some-clause-read : goal.returns-in-Some-clause-read
-returns-in-Some-clause-read c r count b h =
-    let os = c.args.opens.now in
-    let first : c.in-Close.read ≡ 0 = omega (arith, c.if-read-gt0.false) in
-    close_run c.in-Some.count c.args.bytes.now os r count b c.in-Some.ensures.name
-    (moved c.args.place.now (place.Close 0) os os r count b (c.in-Close.is ∙ ap (λ k. place.Close k) first) refl h)
+    moved place.CloseWhite c.args.place.now os os r _ _ (sym c.in-CloseWhite.is) refl
+    (c.end_white.ensures.read r count b (moved c.args.place.now place.CloseWhite os os r count b c.in-CloseWhite.is refl h))
 
 pub returns-in-Target-clause-read : goal.returns-in-Target-clause-read
 returns-in-Target-clause-read c r count b h =

@@ -1,7 +1,8 @@
 use Rattle.std.proofs.Common.{◌-◌, ◌/◌, ◌%◌, arith, get_or}
 use Rattle.wide_sums.specs.declared.rows.Cell.{Cell}
 use Rattle.multiset_terms.specs.Trees.{is_between, once}
-use Rattle.multiset_terms.proofs.RowLaws.{below-more, front-below}
+use Rattle.multiset_terms.proofs.RowLaws.{below-more}
+use Rattle.multiset_terms.proofs.Joining.{front-below}
 use Rattle.multiset_terms.proofs.Fronts.{fronts-amount, fronts-total, room-below}
 use Rattle.multiset_terms.proofs.cells.extended.Goals as goal
 

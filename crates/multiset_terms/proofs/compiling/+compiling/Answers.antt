@@ -1,8 +1,8 @@
 use Rattle.std.proofs.Common.{rules, FitsSigned, w64, to_z-of_z, take, drop, map, ◌+◌, sym, ap, ◌∙◌, subst}
-use Rattle.multiset_terms.specs.declared.terms.Term.TheVariants as written
+use Rattle.net_model.specs.declared.terms.Term.TheVariants as written
 use Rattle.multiset_terms.specs.Parts.{AreChildren, IsAnswer, IsFault, IsPart}
 use Rattle.multiset_terms.specs.Typing.{children, judged, judged_part, sum_kind, tuple_kind}
-use Rattle.multiset_terms.proofs.Layers.{fold-Add, fold-Tuple}
+use Rattle.net_model.proofs.Layers.{fold-Add, fold-Tuple}
 use Rattle.multiset_terms.proofs.Descent.{around, fault-behind, more-children, node-fault, up-to}
 use Rattle.multiset_terms.proofs.compiling.+compiling.Goals as goal
 

@@ -1,12 +1,12 @@
 use Rattle.std.proofs.Common.{arith, [], ◌∷◌, take, drop, map, ◌+◌, sym, ap, ◌∙◌, subst}
 use Rattle.std.specs.Prelude.{Ok}
-use Rattle.multiset_terms.specs.declared.terms.Guard.TheVariants as written
+use Rattle.net_model.specs.declared.terms.Guard.TheVariants as written
 use Rattle.multiset_terms.specs.GuardParts.{AreGuardParts, IsGuardAnswer, IsGuardPart}
 use Rattle.multiset_terms.specs.Parts.{IsFault}
 use Rattle.multiset_terms.specs.Typing.{children, guard_part, judged_guard, type_of_guard}
 use Rattle.multiset_terms.proofs.Descent.{around, up-to}
 use Rattle.multiset_terms.proofs.GuardDescent.{first-child-fault, guard-fault-behind, guard-node-fault, more-guards, second-child-fault}
-use Rattle.multiset_terms.proofs.GuardLayers.{guard-And, guard-Imply, guard-Not, guard-Or}
+use Rattle.net_model.proofs.Layers.{guard-And, guard-Imply, guard-Not, guard-Or}
 use Rattle.multiset_terms.proofs.compiling_guards.+compiling_guards.Goals as goal
 
 pub guard_part_of-returns-in-Constant : goal.guard_part_of-returns-in-Constant
@@ -81,7 +81,7 @@ pub guard_parts_of-loop-guard-preserved : goal.guard_parts_of-loop-guard-preserv
 guard_parts_of-loop-guard-preserved t c = λ ctx scope.
     subst (λ x. AreGuardParts ctx x c.add.new.self) (up-to c.args.guards.now c.loop-guard.guard-index c.guard-item.result c.loop-guard-test.true c.guard-item.is)
     (more-guards ctx (take c.loop-guard.guard-index c.args.guards.now) c.loop-guard.parts c.add.new.self c.guard-item.result c.in-Ok.part
-    (c.loop-guard.invariant ctx scope) (c.in-Ok.ensures ctx scope) c.in_default.ensures.conditions c.in_default.ensures.nodes)
+    (c.loop-guard.invariant ctx scope) (c.in-Ok.ensures ctx scope) c.in_default.ensures.conditions c.in_default.ensures.nodes c.in_default.ensures.few)
 
 pub guard_parts_of-loop-guard-init : goal.guard_parts_of-loop-guard-init
 guard_parts_of-loop-guard-init t c = λ ctx scope. c.new-parts.ensures ctx

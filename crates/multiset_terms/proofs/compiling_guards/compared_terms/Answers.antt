@@ -1,7 +1,7 @@
 use Rattle.std.proofs.Common.{arith, false, [], ◌∷◌}
 use Rattle.multiset_terms.specs.Typing.{can_be_compared, guard_part, judged}
 use Rattle.multiset_terms.proofs.GuardDescent.{first-child-fault, second-child-fault}
-use Rattle.multiset_terms.proofs.Layers.{fold-Compare}
+use Rattle.net_model.proofs.Layers.{fold-Compare}
 use Rattle.multiset_terms.proofs.compiling_guards.compared_terms.Goals as goal
 
 pub returns-in-Err : goal.returns-in-Err

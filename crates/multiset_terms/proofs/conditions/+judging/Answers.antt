@@ -1,18 +1,18 @@
 use Rattle.std.proofs.Common.{◌≡◌, ℕ, List, [], ◌∷◌, sym, ap, ◌∙◌, true}
 use Rattle.colour_sorts.specs.Domain.{Domain}
-use Rattle.multiset_terms.specs.declared.terms.Order.{Order}
+use Rattle.net_model.specs.declared.terms.Order.{Order}
 use Rattle.multiset_terms.specs.declared.trees.Tree.{Tree}
-use Rattle.multiset_terms.specs.declared.conditions.Condition.{Condition, fold-roll-Condition}
-use Rattle.multiset_terms.specs.declared.conditions.Condition.TheOpen as layer
-use Rattle.multiset_terms.specs.declared.conditions.Condition.TheVariants as condition
+use Rattle.multiset_terms.specs.declared.conditions.CGuard.{CGuard, fold-roll-CGuard}
+use Rattle.multiset_terms.specs.declared.conditions.CGuard.TheOpen as layer
+use Rattle.multiset_terms.specs.declared.conditions.CGuard.TheVariants as condition
 use Rattle.multiset_terms.specs.Conditions.{Verdict, verdict, verdict_of_parts}
 use Rattle.multiset_terms.specs.Trees.{reading}
 use Rattle.multiset_terms.proofs.Readings.{IsColour, colours-head, colours-tail}
 use Rattle.multiset_terms.proofs.conditions.+judging.Goals as goal
 
-second : (d : Domain) (b : List ℕ) (order : Order) (x y : Tree) (whole : Condition) → whole ≡ condition.Compare order x y → (verdict d b whole).is_fit ≡ true → IsColour (reading b y)
+second : (d : Domain) (b : List ℕ) (order : Order) (x y : Tree) (whole : CGuard) → whole ≡ condition.Compare order x y → (verdict d b whole).is_fit ≡ true → IsColour (reading b y)
 second d b order x y whole is known =
-    let e = ap (verdict d b) is ∙ ap (verdict d b) (sym (condition.rolls-Compare order x y)) ∙ fold-roll-Condition Verdict (verdict_of_parts d b) (layer.Compare order x y) in
+    let e = ap (verdict d b) is ∙ ap (verdict d b) (sym (condition.rolls-Compare order x y)) ∙ fold-roll-CGuard Verdict (verdict_of_parts d b) (layer.Compare order x y) in
     let both = ap (λ v. v.is_fit) (sym e) ∙ known in
     colours-head (reading b y) [] (colours-tail (reading b x) (reading b y ∷ []) both)
 

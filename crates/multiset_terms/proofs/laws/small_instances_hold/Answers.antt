@@ -1,12 +1,12 @@
 use Rattle.std.proofs.Common.{◌≡◌, ◌-◌, ◌^◌, [], ◌∷◌, codes, ap, ◌∙◌, false, true}
-use Rattle.colour_sorts.specs.declared.written.SortTerm.TheVariants as written
-use Rattle.multiset_terms.specs.declared.terms.Term.TheOpen as layer
-use Rattle.multiset_terms.specs.declared.terms.Term.TheVariants as term
+use Rattle.net_model.specs.declared.sorts.SortTerm.TheVariants as written
+use Rattle.net_model.specs.declared.terms.Term.TheOpen as layer
+use Rattle.net_model.specs.declared.terms.Term.TheVariants as term
 use Rattle.multiset_terms.specs.Instances.{example, x}
 use Rattle.multiset_terms.specs.Typing.{judged, judged_part}
 use Rattle.multiset_terms.specs.Values.{meaning, meaning_part}
 use Rattle.multiset_terms.specs.Weights.{weighed, weighed_part}
-use Rattle.multiset_terms.proofs.Layers.{fold-Variable, fold-Scalar, fold-Add, fold-All, fold-Subtract, fold-Successor, fold-NumberOf}
+use Rattle.net_model.proofs.Layers.{fold-Variable, fold-Scalar, fold-Add, fold-All, fold-Subtract, fold-Successor, fold-NumberOf}
 use Rattle.multiset_terms.proofs.laws.small_instances_hold.Goals as goal
 
 two : weighed example (term.Add (x ∷ x ∷ [])) ≡ weighed_part example (layer.Add (weighed_part example (layer.Variable (codes "x")) ∷ weighed_part example (layer.Variable (codes "x")) ∷ []))

@@ -1,4 +1,4 @@
-use Rattle.multiset_terms.specs.declared.terms.Term.TheVariants as written
+use Rattle.net_model.specs.declared.terms.Term.TheVariants as written
 use Rattle.multiset_terms.proofs.LeafMakers.{broken-all, every-is, sized-by}
 use Rattle.multiset_terms.proofs.leaves.all.Goals as goal
 

@@ -1,4 +1,4 @@
-use Rattle.multiset_terms.specs.declared.terms.Term.TheVariants as written
+use Rattle.net_model.specs.declared.terms.Term.TheVariants as written
 use Rattle.colour_sorts.specs.declared.sorts.Colour.TheVariants as colour
 use Rattle.multiset_terms.proofs.LeafMakers.{dot-constant, dot-here, dot-sized}
 use Rattle.multiset_terms.proofs.leaves.dot.Goals as goal

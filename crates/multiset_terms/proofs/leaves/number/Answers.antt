@@ -2,7 +2,7 @@ use Rattle.std.proofs.Common.{rules, FitsSigned, w64, to_z-of_z, None, Some, sub
 use Rattle.colour_sorts.specs.declared.sorts.Colour.TheVariants as colour
 use Rattle.colour_sorts.specs.Colours.{colours}
 use Rattle.colour_sorts.specs.Places.{IsPlace}
-use Rattle.multiset_terms.specs.declared.terms.Term.TheVariants as written
+use Rattle.net_model.specs.declared.terms.Term.TheVariants as written
 use Rattle.multiset_terms.specs.Values.{colours_of}
 use Rattle.multiset_terms.proofs.LeafMakers.{sized-by}
 use Rattle.multiset_terms.proofs.Operators.{broken-number, number-in, number-is, number-out, number-refused}

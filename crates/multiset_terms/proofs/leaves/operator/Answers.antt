@@ -1,12 +1,12 @@
 use Rattle.std.proofs.Common.{◌≡◌, ℕ, ◌<◌, ◌≤◌, ◌^◌, List, [], Some, slice_get, sym, ap, ◌∙◌, subst}
-use Rattle.colour_sorts.specs.declared.written.NamedSort.{NamedSort}
-use Rattle.colour_sorts.specs.declared.written.Partition.{Partition}
+use Rattle.net_model.specs.declared.sorts.NamedSort.{NamedSort}
+use Rattle.net_model.specs.declared.sorts.Partition.{Partition}
 use Rattle.colour_sorts.specs.declared.sorts.Sort.{Sort}
 use Rattle.colour_sorts.specs.declared.sorts.Colour.TheVariants as colour
 use Rattle.colour_sorts.specs.Colours.{size}
 use Rattle.colour_sorts.specs.Domain.{Domain}
 use Rattle.colour_sorts.specs.Domain as domains
-use Rattle.multiset_terms.specs.declared.terms.Term.TheVariants as written
+use Rattle.net_model.specs.declared.terms.Term.TheVariants as written
 use Rattle.multiset_terms.specs.Context.{Context}
 use Rattle.multiset_terms.specs.Parts.{IsConstant}
 use Rattle.multiset_terms.specs.Typing as typing

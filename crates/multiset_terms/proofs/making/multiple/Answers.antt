@@ -1,4 +1,4 @@
-use Rattle.multiset_terms.proofs.Layers.{fold-NumberOf, fold-Scalar}
+use Rattle.net_model.proofs.Layers.{fold-NumberOf, fold-Scalar}
 use Rattle.multiset_terms.specs.Values.{meaning_part}
 use Rattle.multiset_terms.proofs.Makers.{multiple-part, over-number, over-scalar, totals-one, verdict-over}
 use Rattle.multiset_terms.proofs.making.multiple.Goals as goal

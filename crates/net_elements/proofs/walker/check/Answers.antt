@@ -1,5 +1,5 @@
 use Rattle.std.proofs.Common.{◌≡◌, true, rules, sym, ap, ◌∙◌}
-use Rattle.net_elements.specs.declared.kinds.Kind.TheVariants.{Pt}
+use Rattle.net_model.specs.declared.kinds.Kind.TheVariants.{Pt}
 use Rattle.net_elements.specs.declared.roles.Role.TheVariants.{Pnml}
 use Rattle.net_elements.specs.Rules.{walk_of}
 use Rattle.net_elements.specs.Walking.{found}

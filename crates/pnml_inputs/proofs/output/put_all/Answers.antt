@@ -14,5 +14,6 @@ loop-at-preserved g c =
     record {
       within = omega (arith, within, length-drop at text, c.loop-at-test.true);
       later = omega (arith, c.loop-at.invariant.later, c.in-Ok.ensures.cause.0);
+      quiet = omega (arith, c.loop-at.invariant.quiet, c.in-Ok.ensures.quiet);
       written = appended (written c.args.out.now) (written c.loop-at.out) (written c.put.new.self) text at n c.loop-at.invariant.written (subst (λ l. Appends (written c.loop-at.out) (written c.put.new.self) (take n l)) rest c.in-Ok.ensures.bytes);
     }

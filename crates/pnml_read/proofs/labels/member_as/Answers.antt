@@ -1,5 +1,5 @@
 use Rattle.std.proofs.Common.{ap, ◌∙◌, codes}
-use Rattle.colour_sorts.specs.declared.written.Member.TheVariants as member
+use Rattle.net_model.specs.declared.sorts.Member.TheVariants as member
 use Rattle.pnml_read.specs.Nets.{text_in}
 use Rattle.pnml_read.proofs.labels.member_as.Goals as goal
 

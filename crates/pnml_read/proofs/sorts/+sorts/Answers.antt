@@ -1,5 +1,5 @@
 use Rattle.std.proofs.Common.{ap, ◌∙◌, codes}
-use Rattle.colour_sorts.specs.declared.written.SortTerm.TheVariants as sort
+use Rattle.net_model.specs.declared.sorts.SortTerm.TheVariants as sort
 use Rattle.pnml_read.specs.Nets.{text_in}
 use Rattle.pnml_read.proofs.sorts.+sorts.Goals as goal
 

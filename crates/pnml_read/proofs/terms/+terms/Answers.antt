@@ -1,5 +1,5 @@
 use Rattle.std.proofs.Common.{ap, ◌∙◌, codes}
-use Rattle.multiset_terms.specs.declared.terms.Term.TheVariants as term
+use Rattle.net_model.specs.declared.terms.Term.TheVariants as term
 use Rattle.pnml_read.specs.Nets.{text_in}
 use Rattle.pnml_read.proofs.terms.+terms.Goals as goal
 

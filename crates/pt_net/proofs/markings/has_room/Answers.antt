@@ -8,12 +8,11 @@ use Rattle.pt_net.proofs.markings.has_room.Goals as goal
 
 pub loop-cell-preserved : goal.loop-cell-preserved
 loop-cell-preserved c =
-    All-more (λ (d : Cell). slice_index c.args.counts.now d.at + d.count < 2 ^ 63 + amount d.at c.args.pre.now) c.cells-cell-items.result.now c.loop-cell.cell-index (record { at = 0; count = 0 }) c.loop-cell-test.true c.loop-cell.invariant
-    (let limit = below_limit c.args.counts.now (get_or c.cells-cell-items.result.now c.loop-cell.cell-index (record { at = 0; count = 0 })).at c.requires.counts in
+    All-more (λ (d : Cell). slice_index c.args.counts.now d.at + d.count < 2 ^ 63 + amount d.at c.args.pre.now) c.args.post.now c.loop-cell.cell-index (record { at = 0; count = 0 }) c.loop-cell-test.true c.loop-cell.invariant
+    (let limit = below_limit c.args.counts.now (get_or c.args.post.now c.loop-cell.cell-index (record { at = 0; count = 0 })).at c.requires.counts in
     omega arith)
 
 pub returns : goal.returns
 returns c =
-    rw (← c.cells-cell-items.ensures.cells)
-    (room_each c.args.counts.now c.args.pre.now c.cells-cell-items.result.now c.requires.counts c.cells-cell-items.ensures.row
-    (All-whole (λ (d : Cell). slice_index c.args.counts.now d.at + d.count < 2 ^ 63 + amount d.at c.args.pre.now) c.cells-cell-items.result.now c.loop-cell.cell-index c.loop-cell-test.false c.loop-cell.invariant))
+    room_each c.args.counts.now c.args.pre.now c.args.post.now c.requires.counts c.requires.post
+    (All-whole (λ (d : Cell). slice_index c.args.counts.now d.at + d.count < 2 ^ 63 + amount d.at c.args.pre.now) c.args.post.now c.loop-cell.cell-index c.loop-cell-test.false c.loop-cell.invariant)

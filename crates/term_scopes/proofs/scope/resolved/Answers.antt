@@ -1,7 +1,7 @@
 use Rattle.std.proofs.Common.{sym, subst}
 use Rattle.multiset_terms.specs.Parts.{AreSized}
 use Rattle.multiset_terms.proofs.Asked.{found-size}
-use Rattle.term_scopes.proofs.Making.{sized-more}
+use Rattle.multiset_terms.proofs.Using.{sized-more}
 use Rattle.term_scopes.proofs.scope.resolved.Goals as goal
 
 pub loop-variable-preserved : goal.loop-variable-preserved

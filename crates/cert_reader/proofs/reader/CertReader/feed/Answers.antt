@@ -1,5 +1,11 @@
-use Rattle.cert_reader.proofs.Answered.{feed_refusal}
+use Rattle.std.proofs.Common.{◌++◌, Some, Err, subst}
+use Rattle.line_words.specs.Readers.{StandsFor}
+use Rattle.cert_reader.specs.Reading.{ComesTo, LeadsTo}
+use Rattle.cert_reader.proofs.Answered.{refusal_of}
 use Rattle.cert_reader.proofs.reader.CertReader.feed.Goals as goal
 
-pub returns-clause-fault : goal.returns-clause-fault
-returns-clause-fault c = λ b stands. feed_refusal c.take_piece.result c.args.self.now b c.args.piece.now stands c.take_piece.ensures.fault
+pub returns-in-Err-clause-fault : goal.returns-in-Err-clause-fault
+returns-in-Err-clause-fault c b read =
+    let fed = c.feed.new.self in
+    refusal_of c.in-Err.fault (b ++ c.args.piece.now)
+    (subst (λ o. StandsFor LeadsTo ComesTo fed.cutter.taker fed.cutter.number fed.cutter.rest.items o (b ++ c.args.piece.now)) c.in-Err.ensures.refused (c.in-Err.ensures.stands b read))

@@ -4,7 +4,8 @@ use Rattle.std.specs.List.{slice_get}
 use Rattle.colour_sorts.specs.declared.facts.Mark.TheVariants.{Done}
 use Rattle.colour_sorts.specs.Colours.{constants_at}
 use Rattle.colour_sorts.specs.Judging.{AreCapped}
-use Rattle.colour_sorts.specs.Naming.{constants_of, enough, sort_of}
+use Rattle.net_model.specs.Ids.{constants_of}
+use Rattle.colour_sorts.specs.Naming.{enough, sort_of}
 use Rattle.colour_sorts.proofs.PlacesIn.{some-is-some}
 use Rattle.colour_sorts.proofs.Resolved.{ready, rule-of-known, rule-of-unknown}
 use Rattle.colour_sorts.proofs.Walks.{done-is}

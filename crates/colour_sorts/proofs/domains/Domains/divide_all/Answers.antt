@@ -1,7 +1,6 @@
 use Rattle.std.proofs.Common.{◌<◌, [], sym, ap, ◌∙◌, arith, length, length-append, map, take}
 use Rattle.std.proofs.lemmas.List.{get_or-map, length-map}
-use Rattle.colour_sorts.specs.Domain.{element_ids}
-use Rattle.colour_sorts.specs.Groups.{names_in}
+use Rattle.net_model.specs.Ids.{element_ids, names_in}
 use Rattle.colour_sorts.proofs.Grouped.{few-next}
 use Rattle.colour_sorts.proofs.Partitioned.{divided-more, fault-here, sound-with}
 use Rattle.colour_sorts.proofs.domains.Domains.divide_all.Goals as goal

@@ -1,5 +1,5 @@
 use Rattle.std.proofs.Common.{List, [], take}
-use Rattle.colour_sorts.specs.declared.written.NamedSort.{NamedSort}
+use Rattle.net_model.specs.declared.sorts.NamedSort.{NamedSort}
 use Rattle.colour_sorts.specs.Calls.{AreDivided}
 use Rattle.colour_sorts.specs.Domain.{StandsFor}
 use Rattle.colour_sorts.proofs.domains.Domains.divide_all.Given as goal

@@ -1,5 +1,5 @@
 use Rattle.std.proofs.Common.{◌≡◌, List, [], length, take}
-use Rattle.colour_sorts.specs.declared.written.Block.{Block}
+use Rattle.net_model.specs.declared.sorts.Block.{Block}
 use Rattle.colour_sorts.specs.Colours.{colours}
 use Rattle.colour_sorts.specs.Filling.{AreFilling}
 use Rattle.colour_sorts.proofs.domains.Domains.put_members.Given as goal

@@ -2,7 +2,8 @@ use Rattle.std.proofs.Common.{◌≡◌, ◌++◌, ◌∷◌, ◌-◌, [], ap, s
 use Rattle.std.specs.List.{IsDistinct}
 use Rattle.std.specs.Str.{bytes_eq}
 use Rattle.colour_sorts.specs.declared.groups.Group.{Group}
-use Rattle.colour_sorts.specs.Groups.{names_in, names_of}
+use Rattle.net_model.specs.Ids.{names_in}
+use Rattle.colour_sorts.specs.Groups.{names_of}
 use Rattle.colour_sorts.proofs.Grouped.{grouped-more, views-more}
 use Rattle.colour_sorts.proofs.groups.Groups.with.Goals as goal
 

@@ -1,0 +1,5 @@
+pub mod Outcomes
+pub mod Refusals
+pub mod Forms
+pub mod Written
+pub mod Answers

@@ -1,0 +1,4 @@
+pub mod Binding
+pub mod Counting
+pub mod Digits
+pub mod Rising

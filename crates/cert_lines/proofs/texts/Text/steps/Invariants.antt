@@ -1,6 +1,0 @@
-use Rattle.std.proofs.Common.{◌≡◌, ◌++◌, flat_map, take}
-use Rattle.cert_lines.specs.Texts.{step_line}
-use Rattle.cert_lines.proofs.texts.Text.steps.Given as goal
-
-abbrev pub invariant-loop-step : goal.invariant-loop-step
-invariant-loop-step l = l.self ≡ l.fn.self ++ flat_map step_line (take l.step-index l.steps)

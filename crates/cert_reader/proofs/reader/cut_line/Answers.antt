@@ -1,7 +1,0 @@
-use Rattle.cert_reader.proofs.LineCuts.{cut_parts}
-use Rattle.cert_reader.proofs.reader.cut_line.Goals as goal
-
-pub returns : goal.returns
-returns c =
-    let parts = cut_parts 10 c.args.bytes.now c.cut_at.result.0.now c.cut_at.result.1 c.cut_at.ensures.before c.cut_at.ensures.behind in
-    record { whole = parts.0; some = parts.1; none = parts.2 }

@@ -1,0 +1,10 @@
+use Rattle.std.proofs.Common.{◌+◌, length}
+use Rattle.colour_sorts.specs.Knowing.{IsKnowing}
+use Rattle.colour_sorts.specs.Searching.{steps_of_all}
+use Rattle.colour_sorts.proofs.knowing.search_from.Given as goal
+
+abbrev pub invariant-loop-turn : goal.invariant-loop-turn
+invariant-loop-turn l = IsKnowing l.sorts l.visits l.waiting.items l.root
+
+abbrev pub decreases-loop-turn : goal.decreases-loop-turn
+decreases-loop-turn l = steps_of_all l.ids l.sorts l.visits + length l.waiting.items

@@ -1,0 +1,4 @@
+pub mod Cutting
+pub mod LineEnds
+pub mod SpacedWords
+pub mod WordsAgain

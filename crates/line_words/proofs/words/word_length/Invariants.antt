@@ -1,0 +1,10 @@
+use Rattle.std.proofs.Common.{length, drop, ◌-◌, ◌≡◌, ◌+◌, ◌≤◌}
+use Rattle.std.specs.List.{position_or_len}
+use Rattle.line_words.specs.Words.{is_white}
+use Rattle.line_words.proofs.words.word_length.Given as goal
+
+abbrev pub invariant-loop-at : goal.invariant-loop-at
+invariant-loop-at l = (l.at ≤ length l.bytes) × (position_or_len is_white l.bytes ≡ l.at + position_or_len is_white (drop l.at l.bytes))
+
+abbrev pub decreases-loop-at : goal.decreases-loop-at
+decreases-loop-at l = length l.bytes - l.at

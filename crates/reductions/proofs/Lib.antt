@@ -1,0 +1,14 @@
+pub mod Enabling
+pub mod Filling
+pub mod Going
+pub mod Joining
+pub mod Making
+pub mod OneKey
+pub mod Kept
+pub mod Nets
+pub mod Numbers
+pub mod Pushing
+pub mod Reduces
+pub mod Rows
+pub mod Runs
+pub mod Slotting

@@ -1,0 +1,10 @@
+pub mod Examples
+pub mod Laws
+pub mod Marking
+pub mod Merged
+pub mod Merging
+pub mod Numbers
+pub mod Reduced
+pub mod Rounds
+pub mod Searching
+pub mod Slots

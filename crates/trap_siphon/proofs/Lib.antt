@@ -1,0 +1,9 @@
+pub mod Adding
+pub mod Counting
+pub mod Entries
+pub mod Finishing
+pub mod Members
+pub mod Outside
+pub mod Spending
+pub mod Stages
+pub mod Touching

@@ -1,0 +1,4 @@
+pub mod Closing
+pub mod Sets
+pub mod Siphons
+pub mod Stages
