@@ -1,9 +1,9 @@
-ghost use Rattle.std.specs.Prelude.{◌≡◌, ◌<◌, ◌≤◌, ◌+◌, ◌^◌, [], length, All, IfOk, OnOk};
+ghost use Rattle.std.specs.Prelude.{◌≡◌, ◌<◌, ◌≤◌, ◌+◌, ◌^◌, length, All, IfOk, OnOk};
 ghost use Rattle.pt_net.specs.Markings.{IsInRange};
-ghost use Rattle.pt_net.specs.Systems.{system_of, places, size};
+ghost use Rattle.pt_net.specs.Systems.{places, size};
 ghost use Rattle.reduction_examples.specs.Drafts.{IsDraft};
 
-use pt_net::{Instance, PtNet};
+use pt_net::{Origin, PtNet, PtNetBuilder};
 use std::alloc::Global;
 use wide_sums::{Cell, Memory, Row};
 
@@ -12,8 +12,8 @@ const MOST: u64 = 9_223_372_036_854_775_807;
 /// A net that is made instance by instance. Instance `i` is that of transition `i`.
 #[derive(Debug, Drop)]
 pub struct Draft {
-    initial: Vec<u64>,
-    instances: Vec<Instance>,
+    places: u32,
+    builder: PtNetBuilder,
 }
 
 // Puts a cell at the end of a row, if it can stand there.
@@ -46,18 +46,18 @@ fn row(alloc: Global, places: u32, cells: &[Cell]) -> Result<Row, Memory>
 }
 
 impl Draft {
-    /// A net of these places, each with at most 2^63 - 1 tokens, without instances.
-    pub fn new(alloc: Global, initial: Vec<u64>) -> Draft
+    /// A net of these places, each with at most 2^63 - 1 tokens, without instances, and room for so
+    /// many with an input and an output each.
+    pub fn new(alloc: Global, initial: Vec<u64>, instances: usize) -> Result<Draft, Memory>
         requires counts { All (λ k. k < 2 ^ 63) initial.items }
         requires few { length initial.items < 2 ^ 32 }
-        ensures draft { IsDraft result.initial.items result.instances.items }
-        ensures none { result.instances.items ≡ [] }
-        ensures places { result.initial.items ≡ initial.items }
+        ensures draft { IfOk result (λ draft. IsDraft draft.places draft.builder) }
+        ensures none { IfOk result (λ draft. size draft.builder ≡ 0) }
+        ensures places { IfOk result (λ draft. places draft.builder ≡ length initial.items) }
     {
-        Draft {
-            initial,
-            instances: Vec::new(alloc),
-        }
+        let places = initial.len() as u32;
+        let builder = PtNetBuilder::with_capacity(alloc, initial, instances, instances, instances)?;
+        Ok(Draft { places, builder })
     }
 
     /// Adds an instance with at most two inputs and two outputs. Cells that no row of the net can
@@ -65,31 +65,30 @@ impl Draft {
     pub fn add(&mut self, alloc: Global, pre: &[Cell], post: &[Cell]) -> Result<(), Memory>
         requires pre { length pre.now ≤ 2 }
         requires post { length post.now ≤ 2 }
-        requires few { length self.old.instances.items < 2 ^ 30 }
-        requires draft { IsDraft self.old.initial.items self.old.instances.items }
-        ensures draft { OnOk result (IsDraft self.new.initial.items self.new.instances.items) }
-        ensures more { OnOk result (length self.new.instances.items ≡ length self.old.instances.items + 1) }
-        ensures same { OnOk result (self.new.initial.items ≡ self.old.initial.items) }
+        requires few { size self.old.builder < 2 ^ 30 }
+        requires draft { IsDraft self.old.places self.old.builder }
+        ensures draft { OnOk result (IsDraft self.new.places self.new.builder) }
+        ensures more { OnOk result (size self.new.builder ≡ size self.old.builder + 1) }
+        ensures same { OnOk result (places self.new.builder ≡ places self.old.builder) }
     {
-        let places = self.initial.len() as u32;
-        let instance = Instance {
-            transition: self.instances.len() as u32,
+        let origin = Origin {
+            transition: self.builder.instances() as u32,
             binding: 0,
-            pre: row(alloc, places, pre)?,
-            post: row(alloc, places, post)?,
         };
-        self.instances.push(instance)?;
+        let pre = row(alloc, self.places, pre)?;
+        let post = row(alloc, self.places, post)?;
+        self.builder.push(origin, pre.cells(), post.cells())?;
         Ok(())
     }
 
     /// The net.
-    pub fn net(self, alloc: Global) -> Result<PtNet, Memory>
-        requires draft { IsDraft self.initial.items self.instances.items }
-        requires few { length self.instances.items < 2 ^ 31 }
-        ensures places { IfOk result (λ net. places net ≡ length self.initial.items) }
-        ensures size { IfOk result (λ net. size net ≡ length self.instances.items) }
+    pub fn net(self) -> PtNet
+        requires draft { IsDraft self.places self.builder }
+        requires few { size self.builder < 2 ^ 31 }
+        ensures places { places result ≡ places self.builder }
+        ensures size { size result ≡ size self.builder }
     {
-        let Draft { initial, instances } = self;
-        PtNet::new(alloc, initial, instances)
+        let Draft { builder, .. } = self;
+        builder.finish()
     }
 }

@@ -3,7 +3,7 @@ ghost use Rattle.pt_net.specs.Systems.{places, size};
 ghost use Rattle.reductions.specs.Slots.{CanBeGiven};
 
 use crate::Draft;
-use pt_net::{Packed, PtNet};
+use pt_net::{Packed, PtNet, Side};
 use reductions::{Fate, Reduced, Slot, reduce};
 use std::alloc::Global;
 use std::marker::Brand;
@@ -30,11 +30,12 @@ fn net_of(alloc: Global, counts: &[u64], rows: &[[Cell; 4]]) -> Result<PtNet, Me
     ensures places { IfOk result (λ net. places net ≡ length counts.now) }
     ensures size { IfOk result (λ net. size net ≡ length rows.now) }
 {
-    let mut draft = Draft::new(alloc, Vec::from_slice(alloc, counts)?);
+    let initial = Vec::from_slice(alloc, counts)?;
+    let mut draft = Draft::new(alloc, initial, rows.len())?;
     for row in rows {
         draft.add(alloc, &[row[0], row[1]], &[row[2], row[3]])?;
     }
-    draft.net(alloc)
+    Ok(draft.net())
 }
 
 // The reduction of a net, counted from 0.
@@ -152,6 +153,70 @@ fn traps_and_siphons_are_told(rt: HostRuntime) -> Result<(), Fail> {
     Ok(())
 }
 
+#[test]
+fn the_reduced_net_has_what_stays(rt: HostRuntime) -> Result<(), Fail> {
+    let alloc = rt.alloc();
+    let t = [cell(0, 1), NONE, cell(1, 1), NONE];
+    let w = [cell(0, 1), cell(2, 1), cell(1, 1), cell(2, 1)];
+    let net = net_of(alloc, &[1, 0, 1], &[t, t, w])?;
+    let found = reduced::<Brand>(Blank::new(1), alloc, &net)?;
+    let slots = [Slot::Kept(0), Slot::Kept(1), Slot::Constant(1)];
+    assert_eq!(rt; found.slots.as_slice(), slots.as_slice());
+    assert_eq!(rt; found.net.initial_counts(), [1, 0].as_slice());
+    assert_eq!(rt; found.net.instances(), 1);
+    if found.net.instances() > 0 {
+        assert_eq!(rt; found.net.origin(0), net.origin(0));
+        assert_eq!(rt; found.net.cells(Side::Pre, 0), [cell(0, 1)].as_slice());
+        assert_eq!(rt; found.net.cells(Side::Post, 0), [cell(1, 1)].as_slice());
+    }
+    let down = found.project(alloc, &net.start(alloc)?)?;
+    assert_eq!(rt; down.counts(), [1, 0].as_slice());
+    let up = found.lift(alloc, &found.net.start(alloc)?)?;
+    assert_eq!(rt; up.counts(), [1, 0, 1].as_slice());
+    Ok(())
+}
+
+#[test]
+fn places_become_constant_in_a_later_round(rt: HostRuntime) -> Result<(), Fail> {
+    let alloc = rt.alloc();
+    let t = [cell(0, 1), NONE, cell(1, 1), NONE];
+    let w = [cell(0, 1), cell(3, 1), cell(1, 1), cell(3, 1)];
+    let r = [cell(2, 2), NONE, cell(2, 2), cell(3, 1)];
+    let net = net_of(alloc, &[1, 0, 1, 1], &[t, w, r])?;
+    let found = reduced::<Brand>(Blank::new(1), alloc, &net)?;
+    let slots = [
+        Slot::Kept(0),
+        Slot::Kept(1),
+        Slot::Constant(1),
+        Slot::Constant(1),
+    ];
+    let fates = [Fate::Kept(0), Fate::Merged(0), Fate::Blocked];
+    assert_eq!(rt; found.slots.as_slice(), slots.as_slice());
+    assert_eq!(rt; found.fates.as_slice(), fates.as_slice());
+    assert_eq!(rt; found.rounds, 2);
+    Ok(())
+}
+
+#[test]
+fn places_of_a_siphon_stay_empty(rt: HostRuntime) -> Result<(), Fail> {
+    let alloc = rt.alloc();
+    let t = [cell(0, 1), NONE, cell(1, 1), NONE];
+    let u = [cell(1, 1), NONE, cell(0, 1), NONE];
+    let z = [cell(2, 1), NONE, cell(1, 1), cell(3, 1)];
+    let w = [cell(3, 1), NONE, cell(2, 1), NONE];
+    let net = net_of(alloc, &[1, 0, 0, 0], &[t, u, z, w])?;
+    let marked = closed::<Brand>(Blank::new(1), alloc, &net)?;
+    assert!(rt; marked.has(0));
+    assert!(rt; marked.has(1));
+    assert!(rt; !marked.has(2));
+    assert!(rt; !marked.has(3));
+    let mut outside = PlaceSet::empty(alloc, &net)?;
+    outside.insert(2);
+    outside.insert(3);
+    assert!(rt; is_siphon(&net, &outside));
+    Ok(())
+}
+
 // A chain in which the last instance fires first: instance `j` moves a token from place
 // `length - 1 - j` to the next one.
 fn chain(alloc: Global, length: u32) -> Result<PtNet, Memory>
@@ -160,12 +225,12 @@ fn chain(alloc: Global, length: u32) -> Result<PtNet, Memory>
 {
     let mut initial = vec![in alloc; 0; length as usize + 1]?;
     initial[0] = 1;
-    let mut draft = Draft::new(alloc, initial);
+    let mut draft = Draft::new(alloc, initial, length as usize)?;
     for instance in 0..length {
         let from = length - 1 - instance;
         draft.add(alloc, &[cell(from, 1)], &[cell(from + 1, 1)])?;
     }
-    draft.net(alloc)
+    Ok(draft.net())
 }
 
 #[test]

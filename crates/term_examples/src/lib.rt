@@ -4,6 +4,8 @@
 #[cfg(test)]
 mod guards;
 #[cfg(test)]
+mod marks;
+#[cfg(test)]
 mod ranges;
 #[cfg(test)]
 mod rows;

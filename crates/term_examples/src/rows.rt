@@ -18,7 +18,7 @@ use wide_sums::{Cell, Row};
 /// The sorts A of a0, a1, a2; B of b1, b0, in that order; C, a cyclic one of c0, c1, c2; R, from -1 to 2; D, dot; P, the
 /// pairs of A and B. The partitions Side of A, Turn of C and Reach of R. The variables x of A, y of B, z of C, r of R, p
 /// of P and d of D.
-fn example(alloc: Global) -> Result<Scope, ScopeFault>
+pub fn example(alloc: Global) -> Result<Scope, ScopeFault>
     ensures { IfOk result (λ scope. IsUsable scope.domains scope.variables) }
 {
     written(
@@ -98,7 +98,13 @@ pub fn is_truth(alloc: Global, scope: &Scope, indices: &[u32], said: &[u8], text
     }
 }
 
-fn compiled(alloc: Global, scope: &Scope, marking: bool, text: &[u8]) -> Result<CTerm, TermFault>
+/// A compiled term, which stands in a marking or doesn't.
+pub fn compiled(
+    alloc: Global,
+    scope: &Scope,
+    marking: bool,
+    text: &[u8],
+) -> Result<CTerm, TermFault>
     requires { IsUsable scope.now.domains scope.now.variables }
 {
     match term(alloc, text) {
@@ -107,6 +113,7 @@ fn compiled(alloc: Global, scope: &Scope, marking: bool, text: &[u8]) -> Result<
     }
 }
 
+/// A compiled guard.
 pub fn compiled_guard(alloc: Global, scope: &Scope, text: &[u8]) -> Result<CGuard, TermFault>
     requires { IsUsable scope.now.domains scope.now.variables }
 {

@@ -4,7 +4,7 @@ ghost use Rattle.multiset_terms.specs.Usable.{IsUsable};
 use colour_sorts::{NamedSort, SortTerm, Span};
 use multiset_terms::{Guard, Order, Term};
 use name_tables::{Name, decimal};
-use sqlite_items::Items;
+use sqlite_items::{Boxed, Items};
 use std::alloc::Global;
 use term_scopes::{Scope, ScopeFault, declared};
 use wide_sums::Memory;
@@ -23,11 +23,30 @@ fn sorts(alloc: Global, count: u32) -> Result<Vec<NamedSort>, Memory> {
     Ok(sorts)
 }
 
-fn variable(alloc: Global, number: u32) -> Result<Name, Memory> {
-    let mut name = Name::new(alloc, b"v")?;
+/// A letter and a number.
+fn numbered(alloc: Global, letter: &[u8], number: u32) -> Result<Name, Memory> {
+    let mut name = Name::new(alloc, letter)?;
     let digits = decimal(alloc, number as i128)?;
     name.append(digits.bytes())?;
     Ok(name)
+}
+
+fn variable(alloc: Global, number: u32) -> Result<Name, Memory> {
+    numbered(alloc, b"v", number)
+}
+
+/// The cyclic enumeration of so many constants, which is the one sort.
+fn circle(alloc: Global, count: u32) -> Result<Vec<NamedSort>, Memory> {
+    let mut constants = Vec::new(alloc);
+    for number in 0..count {
+        constants.push(numbered(alloc, b"c", number)?)?;
+    }
+    let mut sorts = Vec::new(alloc);
+    sorts.push(NamedSort {
+        id: Name::new(alloc, b"S")?,
+        sort: SortTerm::Cyclic(Items::from_vec(constants)),
+    })?;
+    Ok(sorts)
 }
 
 /// The one sort, by its name.
@@ -62,6 +81,28 @@ pub fn scope(alloc: Global, colours: u32, count: u32) -> Result<Scope, ScopeFaul
         return Err(ScopeFault::Memory);
     };
     declared(alloc, sorts.as_slice(), &[], variables.as_slice())
+}
+
+/// A circle of so many colours, and a variable of it.
+pub fn circle_scope(alloc: Global, colours: u32) -> Result<Scope, ScopeFault>
+    ensures { IfOk result (λ scope. IsUsable scope.domains scope.variables) }
+{
+    let Ok(sorts) = circle(alloc, colours) else {
+        return Err(ScopeFault::Memory);
+    };
+    let Ok(variables) = variables(alloc, 1) else {
+        return Err(ScopeFault::Memory);
+    };
+    declared(alloc, sorts.as_slice(), &[], variables.as_slice())
+}
+
+/// The sum of a variable and the colour behind it.
+pub fn pair(alloc: Global) -> Result<Term, Memory> {
+    let next = Boxed::new(alloc, Term::Variable(variable(alloc, 0)?))?;
+    let mut terms = Vec::new(alloc);
+    terms.push(Term::Variable(variable(alloc, 0)?))?;
+    terms.push(Term::Successor(next))?;
+    Ok(Term::Add(Items::from_vec(terms)))
 }
 
 /// All colours of the one sort.

@@ -1,7 +1,8 @@
 //! Evaluates a term or a guard again and again, so that its time can be measured.
 //!
-//! `term_probe WHAT COUNT TURNS` takes all colours of a range of COUNT numbers (`all`), the sum of COUNT variables (`sum`), or a guard of
-//! COUNT comparisons (`guard`). It evaluates it TURNS times, and prints how many cells, or comparisons that were true, that came to.
+//! `term_probe WHAT COUNT TURNS` takes all colours of a range of COUNT numbers (`all`), the sum of COUNT variables (`sum`), the sum of a
+//! variable of a circle of COUNT colours and the colour behind it (`pair`), or a guard of COUNT comparisons (`guard`). It evaluates it
+//! TURNS times, and prints how many cells, or comparisons that were true, that came to.
 #![tactic(auto)]
 
 mod made;
@@ -24,6 +25,7 @@ fn counted(alloc: Global, what: &str, count: &str, turns: &str) -> Option<u64> {
     match what {
         "all" => turns::all(alloc, count, turns),
         "sum" => turns::sum(alloc, count, turns),
+        "pair" => turns::pair(alloc, count, turns),
         "guard" => turns::guard(alloc, count, turns),
         _ => None,
     }

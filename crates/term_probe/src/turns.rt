@@ -1,31 +1,48 @@
-ghost use Rattle.multiset_terms.specs.Standing.{CanBeEvaluated, CanBeJudged};
+ghost use Rattle.multiset_terms.specs.Standing.{CanBeAdded, CanBeJudged};
 ghost use Rattle.multiset_terms.specs.Usable.{IsUsable};
 
 use crate::made;
 use colour_sorts::Domains;
 use multiset_terms::{
-    CGuard, CTerm, Guard, Term, compile_guard, compile_term, eval, holds, is_binding, is_block,
+    CGuard, CTerm, Guard, Scale, Term, compile_guard, compile_term, eval_into, holds, is_binding,
+    is_block, merge,
 };
 use std::alloc::Global;
 use std::hint::spin_loop;
 use term_scopes::Scope;
+use wide_sums::Cell;
 
-/// How many cells the value of a term has, in so many turns together.
-fn cells_in_turns(
+/// How many cells the value of a term has. They are put into a buffer that is used again.
+fn cells_in_turn(
     alloc: Global,
-    domains: &Domains,
     term: &CTerm,
     indices: &[u32],
-    turns: u32,
+    buffer: &mut Vec<Cell>,
 ) -> Option<u64>
-    requires { CanBeEvaluated term.now indices.now }
+    requires { CanBeAdded term.now indices.now (record { times = 1; offset = 0 }) }
 {
+    let once = Scale {
+        times: 1,
+        offset: 0,
+    };
+    buffer.clear();
+    match eval_into(alloc, term, indices, once, buffer) {
+        Ok(()) => {
+            merge(buffer);
+            Some(buffer.len() as u64)
+        }
+        Err(_) => None,
+    }
+}
+
+/// How many cells the value of a term has, in so many turns together.
+fn cells_in_turns(alloc: Global, term: &CTerm, indices: &[u32], turns: u32) -> Option<u64>
+    requires { CanBeAdded term.now indices.now (record { times = 1; offset = 0 }) }
+{
+    let mut buffer = Vec::new(alloc);
     let mut cells: u64 = 0;
     for _turn in 0..turns {
-        match eval(alloc, domains, term, indices) {
-            Ok(row) => cells = cells.saturating_add(row.cells().len() as u64),
-            Err(_) => return None,
-        }
+        cells = cells.saturating_add(cells_in_turn(alloc, term, indices, &mut buffer)?);
     }
     Some(cells)
 }
@@ -43,7 +60,7 @@ fn cells_at(alloc: Global, scope: &Scope, term: &Term, indices: &[u32], turns: u
     if !is_binding(&scope.domains, &scope.variables, indices) {
         return None;
     }
-    cells_in_turns(alloc, &scope.domains, &compiled, indices, turns)
+    cells_in_turns(alloc, &compiled, indices, turns)
 }
 
 /// The cells of a term where its variables have rising colours.
@@ -137,6 +154,23 @@ fn sum_in(alloc: Global, scope: &Scope, count: u32, turns: u32) -> Option<u64>
 pub fn sum(alloc: Global, count: u32, turns: u32) -> Option<u64> {
     match made::scope(alloc, count, count) {
         Ok(scope) => sum_in(alloc, &scope, count, turns),
+        Err(_) => None,
+    }
+}
+
+fn pair_in(alloc: Global, scope: &Scope, turns: u32) -> Option<u64>
+    requires { IsUsable scope.now.domains scope.now.variables }
+{
+    match made::pair(alloc) {
+        Ok(term) => cells(alloc, scope, &term, 1, turns),
+        Err(_) => None,
+    }
+}
+
+/// The sum of a variable and the colour behind it, over a circle of so many colours.
+pub fn pair(alloc: Global, count: u32, turns: u32) -> Option<u64> {
+    match made::circle_scope(alloc, count) {
+        Ok(scope) => pair_in(alloc, &scope, turns),
         Err(_) => None,
     }
 }
