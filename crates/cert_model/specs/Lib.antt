@@ -1,0 +1,11 @@
+pub mod Sums
+pub mod Nets
+pub mod Forms
+pub mod Facts
+pub mod Formulas
+pub mod Paths
+pub mod Trees
+pub mod Judging
+pub mod Laws
+pub mod Names
+pub mod Examples
