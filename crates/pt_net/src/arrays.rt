@@ -172,6 +172,20 @@ impl PackedInstances {
         self.heads.len()
     }
 
+    /// How many cells the input rows have together.
+    pub(crate) fn input_cells(&self) -> usize
+        ensures { result ≡ sum_by (λ t. length t.pre) self.now }
+    {
+        self.inputs.len()
+    }
+
+    /// How many cells the output rows have together.
+    pub(crate) fn output_cells(&self) -> usize
+        ensures { result ≡ sum_by (λ t. length t.post) self.now }
+    {
+        self.outputs.len()
+    }
+
     /// The transition and the binding of an instance.
     pub(crate) fn origin(&self, instance: u32) -> Origin
         requires { instance < length self.now }

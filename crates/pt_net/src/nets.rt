@@ -62,7 +62,7 @@ impl Model for PtNetBuilder {
 }
 
 impl PtNetBuilder {
-    ghost use Rattle.std.specs.Prelude.{[], ◌∷◌, ◌++◌, ◌+◌, sum_by};
+    ghost use Rattle.std.specs.Prelude.{ℕ, [], ◌∷◌, ◌++◌, ◌+◌, sum_by, take};
     ghost use Rattle.pt_net.specs.Systems.{IsSystem, system_of};
     ghost use Rattle.pt_net.specs.InArrays.{instance_from};
 
@@ -98,6 +98,45 @@ impl PtNetBuilder {
         ensures err { OnErr result (self.new ≡ self.old) }
     {
         self.instances.push(origin, inputs, outputs)
+    }
+
+    /// How many cells the input rows have together.
+    pub fn input_cells(&self) -> usize
+        ensures { result ≡ sum_by (λ t. length t.pre) self.now.instances }
+    {
+        self.instances.input_cells()
+    }
+
+    /// How many cells the output rows have together.
+    pub fn output_cells(&self) -> usize
+        ensures { result ≡ sum_by (λ t. length t.post) self.now.instances }
+    {
+        self.instances.output_cells()
+    }
+
+    /// Puts the instances of another builder behind these, in their order. The initial counts stay
+    /// as they are. After `Memory` only the first ones of `part` may stand behind these.
+    pub fn append(&mut self, part: &PtNetBuilder) -> Result<(), Memory>
+        requires few { length part.now.instances < 2 ^ 32 }
+        requires few_inputs { sum_by (λ t. length t.pre) self.old.instances + sum_by (λ t. length t.pre) part.now.instances < 2 ^ 32 }
+        requires few_outputs { sum_by (λ t. length t.post) self.old.instances + sum_by (λ t. length t.post) part.now.instances < 2 ^ 32 }
+        ensures ok { OnOk result (self.new ≡ system_of self.old.initial (self.old.instances ++ part.now.instances)) }
+        ensures err { OnErr result ((n : ℕ) × (self.new ≡ system_of self.old.initial (self.old.instances ++ take n part.now.instances))) }
+    {
+        let rows = &part.instances;
+        for instance in 0..rows.count() as u32 {
+            let inputs = rows.cells(Side::Pre, instance);
+            let outputs = rows.cells(Side::Post, instance);
+            self.push(rows.origin(instance), inputs, outputs)?;
+        }
+        Ok(())
+    }
+
+    /// Takes these counts in the place of the initial ones.
+    pub fn set_initial(&mut self, initial: Vec<u64>)
+        ensures { self.new ≡ system_of initial.items self.old.instances }
+    {
+        self.initial = initial;
     }
 
     /// The net. Its initial counts are at most 2^63 - 1, the origins rise strictly, and each row has
