@@ -83,7 +83,7 @@ start_inside (n ∷ initial) zero inside = refl
 start_inside (n ∷ initial) (suc p) inside = start_inside initial p (omega (arith, inside))
 
 -- the number of a place by its id
-ids_of : (ids : List (List ℕ)) (initial : List ℕ) → length ids ≡ length initial → map (λ (p : Place). p.id) (places_with ids initial) ≡ ids
+pub ids_of : (ids : List (List ℕ)) (initial : List ℕ) → length ids ≡ length initial → map (λ (p : Place). p.id) (places_with ids initial) ≡ ids
 ids_of [] [] e = refl
 ids_of [] (n ∷ initial) e = absurd (omega (arith, e))
 ids_of (id ∷ ids) [] e = absurd (omega (arith, e))

@@ -6,4 +6,4 @@
 
 mod laws;
 
-pub use laws::files_mean_the_same;
+pub use laws::{files_have_ids, files_mean_the_same, instances_have_ids};
