@@ -1,3 +1,5 @@
+pub mod Verdicts
+pub mod Stages
 pub mod Outcomes
 pub mod Refusals
 pub mod Forms

@@ -1,4 +1,4 @@
-ghost use Rattle.std.specs.Prelude.{◌≡◌, ◌++◌, ◌∷◌, [], decimal, IfOk, OnOk};
+ghost use Rattle.std.specs.Prelude.{◌≡◌, ◌++◌, ◌∷◌, [], codes, decimal, IfOk, OnOk};
 ghost use Rattle.answers.specs.Refusals.{refusal_line, role_word};
 
 use itoa::Buffer;
@@ -43,4 +43,11 @@ pub fn refusal_text(alloc: Global, role: Role, word: &[u8]) -> Result<Vec<u8>, M
     put(&mut text, word)?;
     put(&mut text, b"\n")?;
     Ok(text)
+}
+
+/// The line of a file that is longer than the limit. [`Memory`] comes for want of memory.
+pub fn too_long_text(alloc: Global, role: Role) -> Result<Vec<u8>, Memory>
+    ensures { IfOk result (λ text. text.items ≡ refusal_line role (codes "too-long")) }
+{
+    refusal_text(alloc, role, b"too-long")
 }

@@ -1,4 +1,4 @@
 pub mod Verdicts
-pub mod Answers
 pub mod Headline
 pub mod Lines
+pub mod Causes

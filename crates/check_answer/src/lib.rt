@@ -1,14 +1,13 @@
-//! The answer of `check`: its outcome, and the text that is written.
+//! What `check` says of its files, and in which text.
 //!
-//! The definitions in `specs/` say what the answer to a command line is, where it is told which
-//! names are held. They speak of the files' bytes alone.
+//! The definitions in `specs/` speak of the files' bytes alone.
 #![tactic(auto)]
 
 mod laws;
-mod outcomes;
 mod refusals;
 mod replies;
 mod report;
+mod verdicts;
 
-pub use laws::{holds_is_invariant, too_long_is_told};
-pub use replies::verdict;
+pub use laws::holds_is_invariant;
+pub use replies::{Operands, check};

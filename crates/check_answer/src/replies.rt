@@ -1,35 +1,46 @@
-ghost use Rattle.std.specs.Prelude.{◌≡◌, IfOk, OnOk};
+ghost use Rattle.std.specs.Prelude.{◌≡◌, ◌≤◌, IfOk, OnOk};
 ghost use Rattle.plain_model.specs.Obligations.{judgement};
 ghost use Rattle.plain_model.specs.Plain.{AreDistinct, IsId, IsPlainCertificate, IsPlainCount, IsPlainNet, place_ids};
 ghost use Rattle.plain_rows.specs.Rows.{AreRowsOf};
 ghost use Rattle.plain_text.specs.Certificates.{certificate_text};
 ghost use Rattle.plain_text.specs.Nets.{net_text};
 ghost use Rattle.plain_text.specs.Properties.{property_text};
-ghost use Rattle.answers.specs.Outcomes.{IsFinal};
 ghost use Rattle.check_answer.specs.Verdicts.{IsJudged, IsNotYet, IsVerdict};
+ghost use Rattle.pnml_inputs.specs.Answers.{IsQuiet, ReadsBy};
+ghost use Rattle.pnml_inputs.specs.Reading.{inputs_reading};
 
-use crate::outcomes::outcome_of;
 use crate::refusals::Refusal;
 use crate::report::report_text;
-use answers::{Outcome, Reply, refusal_text};
-use host_io::{Gate, Phase};
-use name_tables::is_id;
+use crate::verdicts::verdict_of;
+use answers::{Reply, Verdict, refusal_text};
+use host_io::{Files, Gate, Phase};
+use name_tables::{Name, is_id};
 use plain_judge::{NumberedProperty, judge};
 use plain_model::{Certificate, Judged, PlainNet, Property};
 use plain_rows::{Numbers, PlainRows, build};
 use plain_text::{read_certificate, read_net, read_property};
-use pnml_inputs::{Inputs, Role};
+use pnml_inputs::{Inputs, Role, Stop, read_inputs};
 use std::alloc::Global;
 use wide_sums::Memory;
 
+/// The names of the files of `check`.
+#[derive(Clone, Copy)]
+pub struct Operands<'a> {
+    /// The net.
+    pub net: &'a Name,
+    /// The properties.
+    pub formula: &'a Name,
+    /// The certificate.
+    pub certificate: &'a Name,
+}
+
 /// The reply where this file isn't taken yet.
 fn not_yet(alloc: Global, role: Role) -> Result<Reply, Memory>
-    ensures is_final { IfOk result (λ reply. IsFinal reply.outcome) }
-    ensures line { IfOk result (λ reply. IsNotYet reply.outcome reply.text.items) }
+    ensures { IfOk result (λ reply. IsNotYet reply.verdict reply.text.items) }
 {
     let text = refusal_text(alloc, role, b"not-yet")?;
     Ok(Reply {
-        outcome: Outcome::Refused,
+        verdict: Verdict::Refused,
         text,
     })
 }
@@ -139,8 +150,7 @@ fn reply_on<G: Gate>(
     requires plain { IsPlainNet net.now }
     requires places { rows.now.places ≡ place_ids net.now }
     requires rows { AreRowsOf net.now rows.now.net }
-    ensures is_final { IfOk result (λ reply. IsFinal reply.outcome) }
-    ensures judged { IfOk result (λ reply. IsJudged inputs.now reply.outcome reply.text.items) }
+    ensures { IfOk result (λ reply. IsJudged inputs.now reply.verdict reply.text.items) }
 {
     let property = property_of(alloc, inputs.formula())?;
     let numbered = numbered_property(alloc, &rows.places, &property)?;
@@ -148,15 +158,14 @@ fn reply_on<G: Gate>(
     let judged = judgement_of(alloc, net, rows, &numbered, &certificate, gate)?;
     let text = report_text(alloc, net, &property, &certificate, &judged)?;
     Ok(Reply {
-        outcome: outcome_of(&judged),
+        verdict: verdict_of(&judged),
         text,
     })
 }
 
 /// The report on the three texts. The first that isn't taken yet, in their order, is refused.
 fn judged_reply<G: Gate>(alloc: Global, inputs: &Inputs, gate: &G) -> Result<Reply, Refusal>
-    ensures is_final { IfOk result (λ reply. IsFinal reply.outcome) }
-    ensures judged { IfOk result (λ reply. IsJudged inputs.now reply.outcome reply.text.items) }
+    ensures { IfOk result (λ reply. IsJudged inputs.now reply.verdict reply.text.items) }
 {
     let net = net_of(alloc, inputs.net())?;
     let rows = rows_of(alloc, &net, gate)?;
@@ -167,13 +176,41 @@ fn judged_reply<G: Gate>(alloc: Global, inputs: &Inputs, gate: &G) -> Result<Rep
 /// that isn't taken yet. [`Memory`] comes for want of memory.
 ///
 /// The gate is passed as the net is numbered, and as the obligations are judged.
-pub fn verdict<G: Gate>(alloc: Global, inputs: &Inputs, gate: &G) -> Result<Reply, Memory>
-    ensures is_final { IfOk result (λ reply. IsFinal reply.outcome) }
-    ensures verdict { IfOk result (λ reply. IsVerdict inputs.now reply.outcome reply.text.items) }
+fn verdict<G: Gate>(alloc: Global, inputs: &Inputs, gate: &G) -> Result<Reply, Memory>
+    ensures { IfOk result (λ reply. IsVerdict inputs.now reply.verdict reply.text.items) }
 {
     match judged_reply(alloc, inputs, gate) {
         Ok(reply) => Ok(reply),
         Err(Refusal::NotYet(role)) => not_yet(alloc, role),
         Err(Refusal::Memory) => Err(Memory),
+    }
+}
+
+/// What `check` says of the files with these names, of a net, of properties and of a certificate, which are held whole: the report,
+/// or the line `refused ROLE not-yet` for the first of them that isn't taken yet.
+///
+/// Where it is told which names are held, the answer is that to the bytes of the files, or [`Stop::TooLong`] of the first
+/// that is longer than the limit. [`Stop::Fault`] comes only where the count of faults rose in this call, or where the name
+/// of a file isn't held before which none is too long, and [`Stop::Memory`] for want of memory.
+pub fn check<F: Files, G: Gate>(
+    alloc: Global,
+    names: Operands<'_>,
+    files: &mut F,
+    gate: &G,
+) -> Result<Reply, Stop>
+    ensures same { F.held files.new ≡ F.held files.old }
+    ensures later { F.faults files.old ≤ F.faults files.new }
+    ensures quiet { IsQuiet (F.faults files.old) (F.faults files.new) result }
+    ensures read { ReadsBy (λ texts reply. IsVerdict texts reply.verdict reply.text.items) (F.held files.old)
+        (inputs_reading names.entry.net.now names.entry.formula.now names.entry.certificate.now)
+        (F.faults files.old) (F.faults files.new) result }
+{
+    let inputs = match read_inputs(alloc, names.net, names.formula, names.certificate, files) {
+        Ok(inputs) => inputs,
+        Err(stop) => return Err(stop),
+    };
+    match verdict(alloc, &inputs, gate) {
+        Ok(reply) => Ok(reply),
+        Err(Memory) => Err(Stop::Memory),
     }
 }

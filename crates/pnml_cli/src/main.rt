@@ -2,14 +2,9 @@
 //! output.
 #![tactic(auto)]
 
-mod command;
-mod laws;
-#[cfg(test)]
-mod tests;
-
-use answers::{Outcome, status};
-use command::run;
-use host_io::{HostFiles, HostSink, OpenGate};
+use answers::Outcome;
+use commands::end_of;
+use host_io::{HostFiles, HostSink};
 use name_tables::Name;
 use std::process::ExitCode;
 use std::{env, io};
@@ -34,9 +29,5 @@ fn words_of(rt: HostRuntime) -> Result<Vec<Name>, Outcome> {
 fn main(rt: HostRuntime) -> ExitCode {
     let mut files = HostFiles::new(rt);
     let mut out = HostSink::new(io::writer(&rt));
-    let outcome = match words_of(rt) {
-        Ok(words) => run(&rt, rt.alloc(), &words, &mut files, &mut out, &OpenGate),
-        Err(outcome) => outcome,
-    };
-    ExitCode::from(status(&outcome))
+    ExitCode::from(end_of(&rt, rt.alloc(), words_of(rt), &mut files, &mut out))
 }

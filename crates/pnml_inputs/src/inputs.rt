@@ -109,8 +109,8 @@ impl Inputs {
     }
 }
 
-/// A buffer for reading, which serves all files of a command.
-fn new_buffer(alloc: Global) -> Result<Vec<u8>, Stop>
+/// A buffer for reading, of 65,536 bytes, which serves all files of a command. [`Stop::Memory`] comes for want of memory.
+pub fn new_buffer(alloc: Global) -> Result<Vec<u8>, Stop>
     ensures room { IfOk result (λ buffer. 0 < length buffer.items) }
     ensures memory { OnErr result (result ≡ Err Stop.Memory) }
 {

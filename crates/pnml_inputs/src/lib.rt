@@ -9,7 +9,7 @@ mod sources;
 #[cfg(test)]
 mod tests;
 
-pub use inputs::{Inputs, MAX_BYTES, Role, Stop, read_input, read_inputs};
+pub use inputs::{Inputs, MAX_BYTES, Role, Stop, new_buffer, read_input, read_inputs};
 pub use keeper::Keeper;
 pub use output::put_all;
 pub use sources::{Source, read_source, read_whole};

@@ -4,14 +4,14 @@ use Rattle.plain_model.specs.Obligations.{judgement}
 use Rattle.plain_model.specs.Plain.{IsPlainCertificate, IsPlainCount}
 use Rattle.plain_model.specs.Report.{report}
 use Rattle.plain_judge.proofs.Order.{distinct_places}
-use Rattle.check_answer.specs.Verdicts.{outcome_of}
+use Rattle.check_answer.specs.Verdicts.{verdict_of}
 use Rattle.check_answer.proofs.replies.reply_on.Goals as goal
 
 pub numbered_property-requires : goal.numbered_property-requires
 numbered_property-requires g c = distinct_places c.args.net.now c.args.rows.now.places c.requires.plain c.requires.places
 
-pub returns-clause-judged : goal.returns-clause-judged
-returns-clause-judged g c =
+pub returns : goal.returns
+returns g c =
     let net = c.args.net.now in
     let property = c.in_ok-property.property in
     let certificate = c.in_ok-certificate.certificate in
@@ -31,6 +31,6 @@ returns-clause-judged g c =
         right = subst (λ (ids : List (List ℕ)). IsPlainCount ids property.right) c.requires.places c.in_ok-numbered.ensures.right;
       };
       plain_certificate = subst (λ (p : Property). IsPlainCertificate net p certificate) same c.in_ok-judged.ensures.plain;
-      outcome_is = c.outcome_of.ensures.outcome ∙ ap outcome_of judged;
+      verdict_is = c.verdict_of.ensures ∙ ap verdict_of judged;
       text_is = c.in_ok-text.ensures ∙ ap (report net property certificate) judged;
     }

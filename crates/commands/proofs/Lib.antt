@@ -1,0 +1,3 @@
+pub mod Shown
+pub mod TooLong
+pub mod Read
