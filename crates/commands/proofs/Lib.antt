@@ -1,3 +1,4 @@
 pub mod Shown
 pub mod TooLong
 pub mod Read
+pub mod One

@@ -2,3 +2,4 @@ pub mod Replies
 pub mod Answers
 pub mod Silences
 pub mod Ends
+pub mod One

@@ -10,5 +10,5 @@ mod replies;
 mod running;
 
 pub use ending::end_of;
-pub use laws::{holds_shows_an_invariant, too_long_is_told};
+pub use laws::{answers_are_one, answers_exist, holds_shows_an_invariant, too_long_is_told};
 pub use running::run;
