@@ -38,18 +38,33 @@ pub enum CertFault {
 }
 
 impl From<Memory> for CertFault {
+    ghost use Rattle.std.specs.Prelude.{◌≡◌};
+    ghost use Rattle.cert_reader.specs.declared.faults.CertFault.TheVariants as fault;
+
+    ghost from_gives = { λ want given. given ≡ fault.Memory };
+
     fn from(_refused: Memory) -> CertFault {
         CertFault::Memory
     }
 }
 
 impl From<AllocError> for CertFault {
+    ghost use Rattle.std.specs.Prelude.{◌≡◌};
+    ghost use Rattle.cert_reader.specs.declared.faults.CertFault.TheVariants as fault;
+
+    ghost from_gives = { λ want given. given ≡ fault.Memory };
+
     fn from(_refused: AllocError) -> CertFault {
         CertFault::Memory
     }
 }
 
 impl<T: Drop> From<AllocFailed<T>> for CertFault {
+    ghost use Rattle.std.specs.Prelude.{◌≡◌};
+    ghost use Rattle.cert_reader.specs.declared.faults.CertFault.TheVariants as fault;
+
+    ghost from_gives = { λ want given. given ≡ fault.Memory };
+
     fn from(_refused: AllocFailed<T>) -> CertFault {
         CertFault::Memory
     }

@@ -18,18 +18,33 @@ pub enum JudgeFault {
 }
 
 impl From<NotYet> for JudgeFault {
+    ghost use Rattle.std.specs.Prelude.{◌≡◌};
+    ghost use Rattle.plain_judge.specs.declared.faults.JudgeFault.TheVariants as fault;
+
+    ghost from_gives = { λ want given. given ≡ fault.NotYet };
+
     fn from(_refused: NotYet) -> JudgeFault {
         JudgeFault::NotYet
     }
 }
 
 impl From<Memory> for JudgeFault {
+    ghost use Rattle.std.specs.Prelude.{◌≡◌};
+    ghost use Rattle.plain_judge.specs.declared.faults.JudgeFault.TheVariants as fault;
+
+    ghost from_gives = { λ want given. given ≡ fault.Memory };
+
     fn from(_refused: Memory) -> JudgeFault {
         JudgeFault::Memory
     }
 }
 
 impl From<AllocError> for JudgeFault {
+    ghost use Rattle.std.specs.Prelude.{◌≡◌};
+    ghost use Rattle.plain_judge.specs.declared.faults.JudgeFault.TheVariants as fault;
+
+    ghost from_gives = { λ want given. given ≡ fault.Memory };
+
     fn from(_refused: AllocError) -> JudgeFault {
         JudgeFault::Memory
     }
@@ -45,6 +60,11 @@ pub enum SumFault {
 }
 
 impl From<NotYet> for SumFault {
+    ghost use Rattle.std.specs.Prelude.{◌≡◌};
+    ghost use Rattle.plain_judge.specs.declared.faults.SumFault.TheVariants as fault;
+
+    ghost from_gives = { λ want given. given ≡ fault.NotYet };
+
     fn from(_refused: NotYet) -> SumFault {
         SumFault::NotYet
     }

@@ -14,18 +14,33 @@ pub enum BuildFault {
 }
 
 impl From<Memory> for BuildFault {
+    ghost use Rattle.std.specs.Prelude.{◌≡◌};
+    ghost use Rattle.plain_rows.specs.declared.faults.BuildFault.TheVariants as fault;
+
+    ghost from_gives = { λ want given. given ≡ fault.Memory };
+
     fn from(_refused: Memory) -> BuildFault {
         BuildFault::Memory
     }
 }
 
 impl From<AllocError> for BuildFault {
+    ghost use Rattle.std.specs.Prelude.{◌≡◌};
+    ghost use Rattle.plain_rows.specs.declared.faults.BuildFault.TheVariants as fault;
+
+    ghost from_gives = { λ want given. given ≡ fault.Memory };
+
     fn from(_refused: AllocError) -> BuildFault {
         BuildFault::Memory
     }
 }
 
 impl<T: Drop> From<AllocFailed<T>> for BuildFault {
+    ghost use Rattle.std.specs.Prelude.{◌≡◌};
+    ghost use Rattle.plain_rows.specs.declared.faults.BuildFault.TheVariants as fault;
+
+    ghost from_gives = { λ want given. given ≡ fault.Memory };
+
     fn from(_refused: AllocFailed<T>) -> BuildFault {
         BuildFault::Memory
     }

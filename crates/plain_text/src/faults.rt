@@ -16,18 +16,33 @@ pub enum TextFault {
 }
 
 impl From<Memory> for TextFault {
+    ghost use Rattle.std.specs.Prelude.{◌≡◌};
+    ghost use Rattle.plain_text.specs.declared.faults.TextFault.TheVariants as fault;
+
+    ghost from_gives = { λ want given. given ≡ fault.Memory };
+
     fn from(_refused: Memory) -> TextFault {
         TextFault::Memory
     }
 }
 
 impl From<AllocError> for TextFault {
+    ghost use Rattle.std.specs.Prelude.{◌≡◌};
+    ghost use Rattle.plain_text.specs.declared.faults.TextFault.TheVariants as fault;
+
+    ghost from_gives = { λ want given. given ≡ fault.Memory };
+
     fn from(_refused: AllocError) -> TextFault {
         TextFault::Memory
     }
 }
 
 impl<T: Drop> From<AllocFailed<T>> for TextFault {
+    ghost use Rattle.std.specs.Prelude.{◌≡◌};
+    ghost use Rattle.plain_text.specs.declared.faults.TextFault.TheVariants as fault;
+
+    ghost from_gives = { λ want given. given ≡ fault.Memory };
+
     fn from(_refused: AllocFailed<T>) -> TextFault {
         TextFault::Memory
     }
