@@ -38,7 +38,7 @@ context_of net = record {
 abbrev pub colour_at : Context → Sort → ℕ → Colour
 colour_at ctx s k = slice_index_or (colours_of ctx s) k colour.Dot
 
--- the value of a marking or an inscription over a sort: a number of dots, or that of a term
+-- the value of a label over a sort: a number of dots, or that of a term; where there is none, it is empty
 abbrev pub value_of : Context → Sort → Binding → Label → Value
 value_of ctx s b Absent = record { count = λ _. 0; is_defined = true }
 value_of ctx s b (Count n) = record { count = λ _. n; is_defined = true }
@@ -101,6 +101,12 @@ abbrev pub truth_of : Context → Option Guard → Binding → Bool
 truth_of ctx None b = true
 truth_of ctx (Some g) b = truth ctx g b
 
+-- the inscription of an arc: where there is none, it is one dot
+abbrev pub inscription : Label → Label
+inscription Absent = Count 1
+inscription (Count n) = Count n
+inscription (Multiset t) = Multiset t
+
 -- an arc with the value of its inscription over the sort of its place
 abbrev pub place_number : Net → List ℕ → ℕ
 place_number net id = position_or_len (λ p. bytes_eq id p.id) net.places
@@ -113,7 +119,7 @@ arc_of net variables a = record {
   number = a.number;
   side = a.side;
   place = place_number net a.place;
-  value = λ b. value_of (context_of net) (sort_at_place net (place_number net a.place)) (binding_of net variables b) a.label;
+  value = λ b. value_of (context_of net) (sort_at_place net (place_number net a.place)) (binding_of net variables b) (inscription a.label);
 }
 
 abbrev pub transition_with : Net → List VariableDecl → List NodeArc → Option Guard → ColouredTransition

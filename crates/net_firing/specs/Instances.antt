@@ -60,6 +60,22 @@ file_net = record {
       ∷ record { id = codes "b"; source = codes "p"; target = codes "t"; label = label.Multiset (term.Variable (codes "x")) } ∷ [];
 }
 
+-- a file's net: the transition `t` takes a dot from the place `p` by an arc that has no inscription, and puts two by one that has
+abbrev pub dot_net : Net
+dot_net = record {
+  id = codes "n";
+  kind = kind.Symmetric;
+  sorts = [];
+  partitions = [];
+  variables = [];
+  places = record { id = codes "p"; sort = sort.Dot; marking = label.Absent } ∷ [];
+  transitions = record { id = codes "t"; guard = None } ∷ [];
+  references = [];
+  arcs =
+      record { id = codes "a"; source = codes "p"; target = codes "t"; label = label.Absent }
+      ∷ record { id = codes "b"; source = codes "t"; target = codes "p"; label = label.Count 2 } ∷ [];
+}
+
 abbrev pub follow_r : List ℕ → List ℕ
 follow_r id = if bytes_eq id (codes "r") then codes "q" else id
 
@@ -75,3 +91,5 @@ pub record WorkedInstances : Type 0 where
   pub no_fault : unfolding_of (record { places = two_colours ∷ []; transitions = fails (λ _. false) ∷ [] }) ≡ Ok (record { initial = 0 ∷ 2 ∷ []; instances = [] })
   -- the arcs of a file's transition, each with its number, its side and its place: a reference is followed
   pub of_file : map (λ t. map {B = ℕ × (Side × ℕ)} (λ a. (a.number, (a.side, a.place))) t.arcs) (coloured_net follow_r file_net).transitions ≡ ((0, (Post, 1)) ∷ (1, (Pre, 0)) ∷ []) ∷ []
+  -- what the arcs of a file's transition move: one dot where there is no inscription
+  pub of_dots : map (λ t. map {B = Side × ℕ} (λ a. (a.side, (a.value []).count 0)) t.arcs) (coloured_net (λ id. id) dot_net).transitions ≡ ((Pre, 1) ∷ (Post, 2) ∷ []) ∷ []

@@ -20,7 +20,7 @@ use Rattle.pt_net.specs.declared.instances.Side.{Side}
 use Rattle.pt_net.specs.declared.instances.Side.TheVariants.{Pre, Post}
 use Rattle.pt_net.specs.Markings.{IsInRange}
 use Rattle.net_firing.specs.Coloured.{ColouredArc}
-use Rattle.net_firing.specs.FileNets.{NodeArc, arc_of, arcs_from, binding_of, context_of, place_number, sort_at_place, value_of}
+use Rattle.net_firing.specs.FileNets.{NodeArc, arc_of, arcs_from, binding_of, context_of, inscription, place_number, sort_at_place, value_of}
 use Rattle.net_firing.specs.Firing.{is_side, joins}
 use Rattle.net_firing.specs.Unfolding.{first_undefined}
 use Rattle.unfolded_files.specs.Files.{all_arcs, arcs_of, id_at, input_arc, numbered_arcs, output_arc}
@@ -35,7 +35,7 @@ if_false x y b e = ap (λ t. if t then x else y) e
 abbrev added : Net → Side → Side → ℕ → List ℕ → Label → ℕ
 added net side own p id label =
     if is_side side own && nat_eq (place_number net id) p
-    then (value_of (context_of net) (sort_at_place net (place_number net id)) (binding_of net [] []) label).count 0
+    then (value_of (context_of net) (sort_at_place net (place_number net id)) (binding_of net [] []) (inscription label)).count 0
     else 0
 
 -- what an arc adds for a transition
@@ -253,12 +253,12 @@ all_counted ids number (t ∷ ts) (i ∷ is) =
     (counted_both (numbered_arcs (input_arc ids t) number i.pre) (numbered_arcs (output_arc ids t) (number + length i.pre) i.post) (inputs_counted ids t number i.pre) (outputs_counted ids t (number + length i.pre) i.post))
     (all_counted ids (next_number number i) ts is)
 
-defined_label : (net : Net) (id : List ℕ) (label : Label) → (n : ℕ) × (label ≡ Count n) → (value_of (context_of net) (sort_at_place net (place_number net id)) (binding_of net [] []) label).is_defined ≡ true
-defined_label net id label (n, is) = ap (λ l. (value_of (context_of net) (sort_at_place net (place_number net id)) (binding_of net [] []) l).is_defined) is
+defined_label : (net : Net) (id : List ℕ) (label : Label) → (n : ℕ) × (label ≡ Count n) → (value_of (context_of net) (sort_at_place net (place_number net id)) (binding_of net [] []) (inscription label)).is_defined ≡ true
+defined_label net id label (n, is) = ap (λ l. (value_of (context_of net) (sort_at_place net (place_number net id)) (binding_of net [] []) (inscription l)).is_defined) is
 
 defined_first : (net : Net) (a : NodeArc) (rest : List NodeArc) → (n : ℕ) × (a.label ≡ Count n) → first_undefined (map (arc_of net []) rest) [] ≡ None → first_undefined (map (arc_of net []) (a ∷ rest)) [] ≡ None
 defined_first net a rest counted behind =
-    if_true (first_undefined (map (arc_of net []) rest) []) (Some a.number) (value_of (context_of net) (sort_at_place net (place_number net a.place)) (binding_of net [] []) a.label).is_defined (defined_label net a.place a.label counted)
+    if_true (first_undefined (map (arc_of net []) rest) []) (Some a.number) (value_of (context_of net) (sort_at_place net (place_number net a.place)) (binding_of net [] []) (inscription a.label)).is_defined (defined_label net a.place a.label counted)
     ∙ behind
 
 defined_step : (net : Net) (target source : Bool) (x y : NodeArc) (rest : List NodeArc) → (n : ℕ) × (x.label ≡ Count n) → (n : ℕ) × (y.label ≡ Count n) → first_undefined (map (arc_of net []) rest) [] ≡ None
