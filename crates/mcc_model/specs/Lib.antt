@@ -1,0 +1,5 @@
+pub mod Faults
+pub mod Table
+pub mod Files
+pub mod Goals
+pub mod Within
