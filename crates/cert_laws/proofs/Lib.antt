@@ -5,3 +5,4 @@ pub mod Values
 pub mod Truths
 pub mod Reaching
 pub mod Plain
+pub mod Fates

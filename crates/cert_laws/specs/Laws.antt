@@ -1,10 +1,12 @@
 -- What the reduced net, as plain data, tells of the net.
-use Rattle.std.specs.Prelude.{◌≡◌, ◌↔◌, ◌<◌, ◌||◌, ℕ, true, List, slice_index, Contains}
+use Rattle.std.specs.Prelude.{◌≡◌, ◌↔◌, ◌⊎◌, ◌<◌, ◌||◌, ℕ, true, List, slice_index, Contains}
 use Rattle.tree_visits.specs.Forests.{are_trees}
 use Rattle.pt_net.specs.Firing.{IsEnabled}
 use Rattle.pt_net.specs.Systems.{NetSystem, instance_at, PtReach, size}
 use Rattle.trap_siphon.specs.Sets.{has}
-use Rattle.reductions.specs.Reduced.{is_dead, is_blocked}
+use Rattle.reductions.specs.declared.Fate.TheVariants.{Dead, Blocked, Kept, Merged}
+use Rattle.reductions.specs.Reduced.{reduced, is_dead, is_blocked, fate, without_constants}
+use Rattle.reductions.specs.Slots.{last_constant}
 use Rattle.cert_model.specs.Nets.{Reach}
 use Rattle.cert_model.specs.Formulas.{Formula, Fireable, fits, truth}
 use Rattle.cert_model.specs.Trees.{Node, branches_of}
@@ -34,6 +36,13 @@ pub record FiringIsReduced (net : NetSystem) : Type 0 where
       → IsEnabled marking (instance_at net i) ↔ (fits (reduced_live net i).needs (kept_counts net marking) ≡ true)
   -- and no other one is
   pub only : (marking : List ℕ) (i : ℕ) → PtReach net marking → i < size net → IsEnabled marking (instance_at net i) → has (last_live net) i ≡ true
+
+-- so it is by what became of an instance: a dead or blocked one never is, and any other one is exactly where its number's is in the
+-- reduced net
+pub record FatesTellFiring (net : NetSystem) : Type 0 where
+  pub off : (marking : List ℕ) (i : ℕ) → PtReach net marking → i < size net → (fate net i ≡ Dead) ⊎ (fate net i ≡ Blocked) → IsEnabled marking (instance_at net i) → ⊥
+  pub on : (marking : List ℕ) (i number : ℕ) → PtReach net marking → i < size net → (fate net i ≡ Kept number) ⊎ (fate net i ≡ Merged number)
+      → IsEnabled marking (instance_at net i) ↔ IsEnabled (without_constants net (last_constant net) marking) (instance_at (reduced net) number)
 
 -- a formula has the same truth at a reached marking and on its reduced places
 abbrev pub FormulasAreReduced : NetSystem → Type 0

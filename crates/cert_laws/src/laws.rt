@@ -1,7 +1,7 @@
 //! Laws over the definitions: each is the contract of a function that does nothing.
 ghost use Rattle.pt_net.specs.Systems.{NetSystem, IsSystem};
 ghost use Rattle.cert_laws.specs.Examples.{ExamplesAreRight};
-ghost use Rattle.cert_laws.specs.Laws.{FiringIsReduced, FormulasAreReduced, PlainNetsMeanTheSame, ShownHoldsAtReached};
+ghost use Rattle.cert_laws.specs.Laws.{FatesTellFiring, FiringIsReduced, FormulasAreReduced, PlainNetsMeanTheSame, ShownHoldsAtReached};
 
 /// What the definitions give of a small net.
 pub fn examples_are_right()
@@ -14,9 +14,11 @@ pub fn plain_nets_mean_the_same()
 {}
 
 /// At reached markings an instance that is dead or blocked in any round is never enabled, and a
-/// live one, kept or merged, exactly where its inputs fit on the reduced places.
+/// live one, kept or merged, exactly where its inputs fit on the reduced places, which is where
+/// the instance of its number is enabled in the reduced net.
 pub fn firing_is_reduced()
-    ensures { (net : NetSystem) → IsSystem net → FiringIsReduced net }
+    ensures places { (net : NetSystem) → IsSystem net → FiringIsReduced net }
+    ensures fates { (net : NetSystem) → IsSystem net → FatesTellFiring net }
 {}
 
 /// At reached markings a formula over all places is true exactly where it is true on the reduced
