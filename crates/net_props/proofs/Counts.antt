@@ -17,7 +17,9 @@ use Rattle.net_firing.specs.Markings.{Marking, pairs, pairs_from, place_at, toke
 use Rattle.net_firing.specs.Unfolding.{Flat, unfolding_of}
 use Rattle.net_firing.proofs.Listed.{parts_of}
 use Rattle.net_firing.proofs.Places.{many}
-use Rattle.net_props.specs.Properties.{Count, Number, Tokens, value}
+use Rattle.mcc_model.specs.declared.formulas.Count.{Count}
+use Rattle.mcc_model.specs.declared.formulas.Count.TheVariants.{Number, Tokens}
+use Rattle.net_props.specs.Properties.{value}
 use Rattle.net_props.specs.Resolved.{weight, constants, difference}
 use Rattle.net_props.proofs.Sums.{same_sum, no_sum, sum_both, sum_read, sum_difference}
 

@@ -1,16 +1,16 @@
 -- State formulas and goals over the places and transitions of a coloured net, by their numbers, and the markings that satisfy them
 -- (Model Checking Contest, the format of properties: `integer-le`, `tokens-count`, `is-fireable`, the logical connectives, and the
 -- reachability properties).
-use Rattle.std.specs.Prelude.{ℕ, ◌≤◌, ◌⊎◌, Bool, List, sum_by, Contains, if◌then◌else◌}
+use Rattle.std.specs.Prelude.{ℕ, ◌≤◌, ◌⊎◌, List, [], ◌∷◌, sum_by, Contains, if◌then◌else◌}
 use Rattle.std.specs.List.{range_with_len}
+use Rattle.mcc_model.specs.declared.formulas.Count.{Count}
+use Rattle.mcc_model.specs.declared.formulas.Count.TheVariants.{Number, Tokens}
+use Rattle.mcc_model.specs.declared.formulas.Formula.{Formula, fold-Formula}
+use Rattle.mcc_model.specs.declared.formulas.Formula.TheOpen as part
+use Rattle.mcc_model.specs.declared.formulas.Goal.{Goal}
 use Rattle.net_firing.specs.Coloured.{ColouredNet}
 use Rattle.net_firing.specs.Firing.{FiresAt, Mode}
 use Rattle.net_firing.specs.Markings.{Marking, place_at, tokens}
-
-pub data Count : Type 0 where
-  Number : ℕ → Count
-  -- the tokens of all colours on the listed places; a place that is listed twice counts twice
-  Tokens : List ℕ → Count
 
 mutual
   pub data StateFormula : Type 0 where
@@ -25,10 +25,20 @@ mutual
     End : StateFormulas
     More : StateFormula → StateFormulas → StateFormulas
 
--- what is said of the reached markings: that each one satisfies the formula, or that some one does
-pub record Goal : Type 0 where
-  pub universal : Bool
-  pub formula : StateFormula
+-- the formula of a goal, with its children in a list of their own kind
+abbrev pub listed_all : List StateFormula → StateFormulas
+listed_all [] = End
+listed_all (f ∷ fs) = More f (listed_all fs)
+
+abbrev pub stated_by_parts : part.Formula-F StateFormula → StateFormula
+stated_by_parts (part.Not f) = Not f
+stated_by_parts (part.And fs) = And (listed_all fs)
+stated_by_parts (part.Or fs) = Or (listed_all fs)
+stated_by_parts (part.AtMost a b) = AtMost a b
+stated_by_parts (part.Fireable transitions) = Fireable transitions
+
+abbrev pub stated : Formula → StateFormula
+stated f = fold-Formula StateFormula stated_by_parts f
 
 abbrev pub tokens_at : ColouredNet → Marking → ℕ → ℕ
 tokens_at net m p = sum_by (tokens m p) (range_with_len 0 (place_at net.places p).size)
@@ -62,4 +72,4 @@ abbrev mutual
 
 -- the invariant that decides a goal: the formula itself, or that it isn't satisfied
 abbrev pub invariant_of : Goal → StateFormula
-invariant_of goal = if goal.universal then goal.formula else Not goal.formula
+invariant_of goal = if goal.universal then stated goal.formula else Not (stated goal.formula)

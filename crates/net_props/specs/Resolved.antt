@@ -5,7 +5,9 @@ use Rattle.cert_model.specs.Forms.{Form}
 use Rattle.cert_model.specs.Formulas as on_places
 use Rattle.net_firing.specs.Coloured.{ColouredNet}
 use Rattle.net_firing.specs.Markings.{pairs}
-use Rattle.net_props.specs.Properties.{Count, Number, Tokens, StateFormula, StateFormulas, AtMost, Fireable, Not, And, Or, End, More}
+use Rattle.mcc_model.specs.declared.formulas.Count.{Count}
+use Rattle.mcc_model.specs.declared.formulas.Count.TheVariants.{Number, Tokens}
+use Rattle.net_props.specs.Properties.{StateFormula, StateFormulas, AtMost, Fireable, Not, And, Or, End, More}
 
 -- the place of a place instance
 abbrev pub owner : ColouredNet → ℕ → ℕ

@@ -4,11 +4,16 @@ ghost use Rattle.pt_net.specs.Systems.{NetSystem, IsSystem};
 ghost use Rattle.net_firing.specs.Coloured.{ColouredNet};
 ghost use Rattle.net_firing.specs.Unfolding.{unfolding_of};
 ghost use Rattle.net_props.specs.Examples.{ExamplesAreRight};
-ghost use Rattle.net_props.specs.Laws.{ResolvedMeansTheSame, ShownHolds};
+ghost use Rattle.net_props.specs.Laws.{FormulasAreStated, ResolvedMeansTheSame, ShownHolds};
 
 /// What the definitions give of a small net.
 pub fn examples_are_right()
     ensures { ExamplesAreRight }
+{}
+
+/// The formula of a file is stated case by case.
+pub fn formulas_are_stated()
+    ensures { FormulasAreStated }
 {}
 
 /// A marking satisfies a formula exactly where the formula over the place instances is true at its

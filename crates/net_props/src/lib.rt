@@ -7,4 +7,4 @@
 
 mod laws;
 
-pub use laws::{examples_are_right, resolved_means_the_same, shown_holds};
+pub use laws::{examples_are_right, formulas_are_stated, resolved_means_the_same, shown_holds};

@@ -4,7 +4,7 @@ use Rattle.std.specs.List.{range_with_len}
 use Rattle.net_firing.specs.Markings.{initial}
 use Rattle.net_firing.proofs.Maps.{starts}
 use Rattle.net_props.specs.Examples.{two_places}
-use Rattle.net_props.specs.Properties.{Tokens}
+use Rattle.mcc_model.specs.declared.formulas.Count.TheVariants.{Tokens}
 use Rattle.net_props.specs.Resolved.{weight}
 use Rattle.net_props.proofs.Counts.{value-is}
 use Rattle.net_props.proofs.laws.examples_are_right.Goals as goal
@@ -15,5 +15,6 @@ returns c = record {
       ∙ ap (λ (counts : List ℕ). 0 + sum_by (λ q. weight two_places (Tokens (1 ∷ 0 ∷ 1 ∷ [])) q * slice_index counts q) (range_with_len 0 5)) (starts two_places).1;
   coefficients = refl;
   constant = refl;
-  never = refl;
+  always = λ f. refl;
+  never = λ f. refl;
 }
