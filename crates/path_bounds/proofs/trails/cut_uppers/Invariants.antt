@@ -1,0 +1,15 @@
+use Rattle.std.proofs.Common.{None, ◌≡◌, take, vec_len, vec_capacity}
+use Rattle.cert_model.specs.Paths.{upper_of}
+use Rattle.path_bounds.specs.Following.{IsTrail}
+use Rattle.path_bounds.proofs.trails.cut_uppers.Given as goal
+
+abbrev pub invariant-loop-trail : goal.invariant-loop-trail
+invariant-loop-trail l = record {
+  trail : IsTrail None upper_of l.upper.items l.trail.items;
+  rest : take l.left l.trail.items ≡ take l.left l.fn.trail.items;
+  places : vec_len l.upper ≡ vec_len l.fn.upper;
+  capacity : vec_capacity l.trail ≡ vec_capacity l.fn.trail;
+}
+
+abbrev pub decreases-loop-trail : goal.decreases-loop-trail
+decreases-loop-trail l = vec_len l.trail
