@@ -1,0 +1,4 @@
+pub mod Instances
+pub mod Links
+pub mod Nodes
+pub mod Numbered
