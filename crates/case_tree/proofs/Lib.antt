@@ -1,0 +1,4 @@
+pub mod Bounding
+pub mod Finding
+pub mod Branching
+pub mod Walking

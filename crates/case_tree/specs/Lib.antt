@@ -1,0 +1,4 @@
+pub mod Agendas
+pub mod Bounds
+pub mod States
+pub mod Examples
