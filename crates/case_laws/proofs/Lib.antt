@@ -1,0 +1,4 @@
+pub mod Mapped
+pub mod Entering
+pub mod Limits
+pub mod Example
