@@ -7,8 +7,10 @@
 
 mod flows;
 mod forms;
+mod laws;
 mod tallies;
 
 pub use cert_model::Check;
 pub use flows::{bound_true, flow_true};
 pub use forms::{Constant, Form, Term};
+pub use laws::bound_owes_its_base;
