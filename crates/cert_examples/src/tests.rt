@@ -1,6 +1,6 @@
 use cert_reader::{
-    Cert, CertFault, CertReader, FactKind, Multiplier, NodeForm, Weight, read_cert, read_factor,
-    read_instance, read_place, write_cert,
+    Cert, CertFault, CertReader, FactKind, Multiplier, NodeForm, Section, Version, Weight,
+    read_cert, read_factor, read_instance, read_place, write_cert,
 };
 use std::test::Fail;
 
@@ -356,7 +356,9 @@ fn repeated_steps_large_sums_and_a_missing_tree(rt: HostRuntime) -> Result<(), F
 fn whole_texts(rt: HostRuntime) -> Result<(), Fail> {
     let first = [
         b"".as_slice(),
-        b"certificate 2\nproperty P\nflow f 1*p0 1*p1\nproof\nclose 1*@1 -1*f\nend\n",
+        b"certificate 3\nend\n",
+        b"certificate 02\nend\n",
+        b"certificate 2 2\nend\n",
         b"certificate 01\n",
         b"certificate -1\n",
         b"certificate\n",
@@ -415,7 +417,10 @@ fn is_weight(weight: &Weight, value: i64, place: &[u8]) -> bool {
 
 /// Whether it is the ring's certificate, line numbers aside.
 fn is_ring(cert: &Cert) -> bool {
-    let ([fact], [node]) = (cert.facts.as_slice(), cert.tree.as_slice()) else {
+    let ([fact], [section]) = (cert.facts.as_slice(), cert.sections.as_slice()) else {
+        return false;
+    };
+    let [node] = section.tree.as_slice() else {
         return false;
     };
     let (FactKind::Flow(weights), NodeForm::Close(multipliers)) = (&fact.kind, &node.form) else {
@@ -425,7 +430,8 @@ fn is_ring(cert: &Cert) -> bool {
     else {
         return false;
     };
-    cert.property.bytes() == b"P".as_slice()
+    cert.version == Version::One
+        && section.property.bytes() == b"P".as_slice()
         && fact.name.bytes() == b"f".as_slice()
         && is_weight(first, 1, b"p0")
         && is_weight(second, 1, b"p1")
@@ -441,8 +447,11 @@ fn is_ring(cert: &Cert) -> bool {
 
 /// Whether the only fact and the only node stand in these lines.
 fn stand_in(cert: &Cert, fact_line: u32, node_line: u32) -> bool {
-    match (cert.facts.as_slice(), cert.tree.as_slice()) {
-        ([fact], [node]) => fact.line == fact_line && node.line == node_line,
+    let ([fact], [section]) = (cert.facts.as_slice(), cert.sections.as_slice()) else {
+        return false;
+    };
+    match section.tree.as_slice() {
+        [node] => fact.line == fact_line && section.line == 2 && node.line == node_line,
         _ => false,
     }
 }
@@ -502,6 +511,195 @@ fn a_refused_reader_answers_the_same_fault(rt: HostRuntime) -> Result<(), Fail> 
         Err(last) => Err(last),
     };
     assert_eq!(rt; answer, fault);
+    Ok(())
+}
+
+/// Whether each text behind the line `certificate 2` gives the fault, or a certificate where there is none.
+fn second_version_gives(
+    rt: &HostRuntime,
+    texts: &[&[u8]],
+    fault: Option<CertFault>,
+) -> Result<bool, Fail> {
+    all_give(rt, b"certificate 2\n", texts, b"", fault)
+}
+
+#[test]
+fn sections_that_are_read(rt: HostRuntime) -> Result<(), Fail> {
+    let texts = [
+        b"end".as_slice(),
+        b"flow f\nend\n",
+        b"bound b 0\nstep t@0 1 0\nend",
+        b"property P\nproof\nclose\nend",
+        b"flow f\nproperty f\nproof\nclose 1*f\nproperty g\nproof\nsplit 0\nclose\nclose\nend",
+        b"trap t p\nbound b 0\nstep t@0 1 0 1*t\nproperty P\nproof\nclose\nproperty Q\nproof\nclash p\nend\n#\xff",
+    ];
+    assert!(rt; second_version_gives(&rt, &texts, None)?);
+    Ok(())
+}
+
+#[test]
+fn sections_out_of_place(rt: HostRuntime) -> Result<(), Fail> {
+    let second = [
+        b"".as_slice(),
+        b"proof\nclose\nend\n",
+        b"close\nend\n",
+        b"step t@0 1 0\nend\n",
+        b"certificate 2\nend\n",
+    ];
+    assert!(rt; second_version_gives(&rt, &second, line(2))?);
+    let third = [
+        b"property P\nflow f 1*p0 1*p1\nproof\nclose 1*@1 -1*f\nend\n".as_slice(),
+        b"property P\nend\n",
+        b"property P\nproperty Q\nproof\nclose\nend\n",
+        b"property P\nclose\nend\n",
+        b"property P",
+        b"flow f\nproof\nclose\nend\n",
+        b"flow f",
+        b"end\nend",
+    ];
+    assert!(rt; second_version_gives(&rt, &third, line(3))?);
+    let fourth = [
+        b"property P\nproof\nend\n".as_slice(),
+        b"property P\nproof\nproperty Q\nproof\nclose\nend\n",
+        b"property P\nproof",
+    ];
+    assert!(rt; second_version_gives(&rt, &fourth, line(4))?);
+    let fifth = [
+        b"property P\nproof\nclose\nflow f\nend\n".as_slice(),
+        b"property P\nproof\nclose\nstep t@0 1 0\nend\n",
+        b"property P\nproof\nclose\nproof\nclose\nend\n",
+        b"property P\nproof\nclose\nclose\nend\n",
+        b"property P\nproof\nclose",
+    ];
+    assert!(rt; second_version_gives(&rt, &fifth, line(5))?);
+    let in_second = [
+        b"bound b 0\nproperty P\nproof\nclose\nproperty Q\nstep t@0 1 0\nproof\nclose\nend\n".as_slice(),
+        b"flow f\nproperty P\nproof\nclose\nproperty Q\ntrap t p\nproof\nclose\nend\n",
+    ];
+    assert!(rt; second_version_gives(&rt, &in_second, line(7))?);
+    let two_in_first: &[u8] =
+        b"certificate 1\nproperty P\nproof\nclose\nproperty Q\nproof\nclose\nend\n";
+    assert_eq!(rt; fault_of(&rt, two_in_first), line(5));
+    Ok(())
+}
+
+#[test]
+fn properties_that_are_named_twice(rt: HostRuntime) -> Result<(), Fail> {
+    let fifth = [
+        b"property P\nproof\nclose\nproperty P\nproof\nclose\nend\n".as_slice(),
+        b"property P\nproof\nclose\nproperty P\nend\n",
+    ];
+    assert!(rt; second_version_gives(&rt, &fifth, Some(CertFault::Repeated { number: 5 }))?);
+    let eighth = [
+        b"property P\nproof\nclose\nproperty Q\nproof\nclose\nproperty P\n".as_slice(),
+        b"property Q\nproof\nclose\nproperty P\nproof\nclose\nproperty P\n",
+    ];
+    assert!(rt; second_version_gives(&rt, &eighth, Some(CertFault::Repeated { number: 8 }))?);
+    Ok(())
+}
+
+/// The ring with three properties, of which the tests also read a part.
+const THREE: &[u8] = b"certificate 2\nflow f 1*p0 1*p1\nproperty P\nproof\nclose 1*@1 -1*f\n\
+    property Q\nproof\nclose 1*@1 -1*f\nproperty S\nproof\nclose 1*@1 -1*f\nend\n";
+
+fn is_section(section: &Section, line: u32, property: &[u8], node_line: u32) -> bool {
+    let [node] = section.tree.as_slice() else {
+        return false;
+    };
+    section.line == line && section.property.bytes() == property && node.line == node_line
+}
+
+/// Whether it has the flow and the three properties, in these lines.
+fn is_three(cert: &Cert) -> bool {
+    let ([fact], [first, second, third]) = (cert.facts.as_slice(), cert.sections.as_slice()) else {
+        return false;
+    };
+    cert.version == Version::Two
+        && fact.line == 2
+        && is_section(first, 3, b"P", 5)
+        && is_section(second, 6, b"Q", 8)
+        && is_section(third, 9, b"S", 11)
+}
+
+#[test]
+fn three_properties_with_one_flow(rt: HostRuntime) -> Result<(), Fail> {
+    let whole = read(&rt, THREE)?;
+    assert!(rt; is_three(&whole));
+    let cut = read_slowly(&rt, THREE)?;
+    assert!(rt; is_three(&cut));
+    let again: &[u8] = b"certificate 2\nflow f 1*p0 1*p1\nproperty P\nproof\nclose 1*@1 -1*f\n\
+        property Q\nproof\nclose 1*@1 -1*f\nproperty P\nproof\nclose 1*@1 -1*f\nend\n";
+    assert_eq!(rt;
+        fault_of(&rt, again),
+        Some(CertFault::Repeated { number: 9 })
+    );
+    Ok(())
+}
+
+#[test]
+fn sections_are_written_as_they_were_read(rt: HostRuntime) -> Result<(), Fail> {
+    let cert = read(
+        &rt,
+        b"#\ncertificate 2\n flow  f 01*p0 1*p1\n\nproperty P\nproof\nclose 1*@1 -1*f\n#\n\
+          property Q\nproof\nclose 1*@01 -1*f\nproperty S\nproof\nclose 1*@1 -1*f\nend",
+    )?;
+    let text = write_cert(rt.alloc(), &cert)?;
+    assert_eq!(rt; text.as_slice(), THREE);
+    let nothing = read(&rt, b"certificate 2\nend")?;
+    assert!(rt; nothing.facts.as_slice().is_empty() && nothing.sections.as_slice().is_empty());
+    let shortest = write_cert(rt.alloc(), &nothing)?;
+    assert_eq!(rt; shortest.as_slice(), b"certificate 2\nend\n".as_slice());
+    Ok(())
+}
+
+/// A certificate of two trees, each of which is the node, so many lines, and one `close` more.
+fn two_trees(
+    rt: &HostRuntime,
+    nodes: [&[u8]; 2],
+    line: &[u8],
+    counts: [u32; 2],
+) -> Result<Vec<u8>, Fail> {
+    let mut text = Vec::from_slice(rt.alloc(), b"certificate 2\nproperty P\nproof\n")?;
+    add_tree(&mut text, nodes[0], line, counts[0])?;
+    text.extend_from_slice(b"property Q\nproof\n")?;
+    add_tree(&mut text, nodes[1], line, counts[1])?;
+    text.extend_from_slice(b"end\n")?;
+    Ok(text)
+}
+
+fn add_tree(text: &mut Vec<u8>, node: &[u8], line: &[u8], count: u32) -> Result<(), Fail> {
+    text.extend_from_slice(node)?;
+    for _ in 0..count {
+        text.extend_from_slice(line)?;
+    }
+    text.extend_from_slice(b"close\n")?;
+    Ok(())
+}
+
+#[test]
+fn the_depth_of_each_tree(rt: HostRuntime) -> Result<(), Fail> {
+    let none: [&[u8]; 2] = [b"", b""];
+    let deepest = two_trees(&rt, none, b"each 1\n", [255, 255])?;
+    assert_eq!(rt; fault_of(&rt, deepest.as_slice()), None);
+    let deeper = two_trees(&rt, none, b"each 1\n", [255, 256])?;
+    assert_eq!(rt;
+        fault_of(&rt, deeper.as_slice()),
+        Some(CertFault::CertLimit { number: 518 })
+    );
+    Ok(())
+}
+
+#[test]
+fn the_nodes_of_all_trees(rt: HostRuntime) -> Result<(), Fail> {
+    let most: [&[u8]; 2] = [b"cases 1 524287\n", b"cases 1 524287\n"];
+    let largest = two_trees(&rt, most, b"close\n", [524_286, 524_286])?;
+    assert_eq!(rt; fault_of(&rt, largest.as_slice()), None);
+    let more: [&[u8]; 2] = [b"cases 1 524287\n", b"cases 1 524288\n"];
+    let larger = two_trees(&rt, more, b"close\n", [524_286, 524_287])?;
+    assert_eq!(rt;
+        fault_of(&rt, larger.as_slice()),
+        Some(CertFault::CertLimit { number: 1_048_582 })
+    );
     Ok(())
 }
 

@@ -1,2 +1,4 @@
 mod Amounts
+mod Flat
+mod LineWords
 mod LinesAgain

@@ -1,5 +1,5 @@
 -- What a line says is said again by the line that it is written as.
-use Rattle.std.proofs.Common.{◌≡◌, ℕ, ℤ, Bool, true, false, List, [], ◌∷◌, map, Option, None, Some, refl, sym, ap, subst, ◌∙◌}
+use Rattle.std.proofs.Common.{◌≡◌, ℕ, ℤ, Bool, true, false, List, [], ◌∷◌, ◌++◌, map, flat_map, Option, None, Some, refl, sym, ap, subst, ◌∙◌}
 use Rattle.std.specs.Prelude.{◌==◌, codes, decimal, slice_index, if◌then◌else◌}
 use Rattle.std.specs.Fmt.{signed_decimal}
 use Rattle.std.specs.Str.{bytes_eq, is_utf8}
@@ -8,8 +8,8 @@ use Rattle.name_tables.specs.Tables.{words_of_certificates}
 use Rattle.line_words.specs.Lines.{line_from, line_with}
 use Rattle.line_words.specs.Lists.{end_with, word_then, words_then}
 use Rattle.line_words.specs.Parts.{factor_of, id_of, index_of, instance_of, multiplier_of, place_of, signed_of, weight_of}
-use Rattle.line_words.specs.Texts.{factor_text, instance_text, multiplier_text, place_text, weight_text}
-use Rattle.line_words.specs.Words.{words_of}
+use Rattle.line_words.specs.Texts.{factor_text, instance_text, multiplier_text, place_text, spaced, weight_text}
+use Rattle.line_words.specs.Words.{behind_mark, words_of}
 use Rattle.line_words.specs.declared.items.Factor.{Factor}
 use Rattle.line_words.specs.declared.items.InstanceRef.{InstanceRef}
 use Rattle.line_words.specs.declared.items.PlaceRef.{PlaceRef}
@@ -17,15 +17,19 @@ use Rattle.line_words.specs.declared.items.Weight.{Weight}
 use Rattle.line_words.specs.declared.lines.Line.{Line}
 use Rattle.line_words.specs.declared.lines.Line.TheVariants.{Passed, Faulty, Says}
 use Rattle.line_words.proofs.SpacedWords.{AreWords, IsWord, no_feed_said, plain_word, text_said, words_said}
-use Rattle.line_words.proofs.WordsAgain.{Rewrites, begins, factor_said, id_writes, index_writes, instance_said, list_said, multiplier_said, nothing_more, place_said, put_before, signed_writes, weight_said}
-use Rattle.cert_lines.specs.Statements.{keyword_of, said, said_from, statement_of, version_of, word_for}
-use Rattle.cert_lines.specs.Written.{WrittenLineIsRead, first_of, later_of, statement_text}
+use Rattle.line_words.proofs.WordsAgain.{Rewrites, Writes, begins, factor_said, id_writes, index_writes, instance_said, list_said, multiplier_said, nothing_more, place_said, put_before, signed_writes, weight_said}
+use Rattle.cert_lines.specs.Statements.{keyword_of, line_of, said, said_from, statement_of, version_of, word_for}
+use Rattle.cert_lines.specs.Texts.{statement_text, version_text}
+use Rattle.cert_lines.specs.Written.{IsSaidAgain, WrittenLineIsRead}
+use Rattle.cert_lines.specs.declared.certificates.Version.{Version}
+use Rattle.cert_lines.specs.declared.certificates.Version.TheVariants.{One, Two}
 use Rattle.cert_lines.specs.declared.certificates.NodeForm.TheVariants as form
 use Rattle.cert_lines.specs.declared.statements.Claim.TheVariants as claim
 use Rattle.cert_lines.specs.declared.statements.Keyword.{Keyword}
 use Rattle.cert_lines.specs.declared.statements.Keyword.TheVariants as first
 use Rattle.cert_lines.specs.declared.statements.Statement.{Statement}
-use Rattle.cert_lines.specs.declared.statements.Statement.TheVariants.{Version, Property, Fact, Step, Proof, Node, End}
+use Rattle.cert_lines.specs.declared.statements.Statement.TheVariants.{Certificate, Property, Fact, Step, Proof, Node, End}
+use Rattle.cert_lines.proofs.LineWords.{first_of, later_of, text_by_words}
 
 -- a statement that its own words say
 pub record Again (statement : Statement) : Type 0 where
@@ -93,22 +97,20 @@ with_first keyword statement is rows = record {
   words = rows.are;
 }
 
-version_is : (word : List ℕ) (statement : Statement) → version_of word ≡ Some statement → statement ≡ Version
-version_is word statement e = by (bytes_eq word (codes "1")) e
-  where
-    by : (t : Bool) → (if t then Some Version else None) ≡ Some statement → statement ≡ Version
-    by true e = cc
-    by false e = absurd (cc)
-
-version_again : (statement : Statement) (words : List (List ℕ)) → said first.Certificate words ≡ Some statement → Again statement
-version_again statement words e =
-    let version = begins version_of end_with words statement e in
-    let same : Version ≡ statement = sym (version_is version.word version.first version.says) ∙ nothing_more version.first statement version.later version.goes_on in
-    subst Again same (with_first first.Certificate Version refl (record { again = refl; are = (plain_word (codes "1") refl refl, tt) }))
+version_writes : (word : List ℕ) (version : Version) → version_of word ≡ Some version → Writes version_of version_text version
+version_writes word One e = record { again = refl; word = plain_word (codes "1") refl refl }
+version_writes word Two e = record { again = refl; word = plain_word (codes "2") refl refl }
 
 -- no word is left
 ends : {B : Type 0} (made : B) → Rewrites (end_with made) made []
 ends made = record { again = refl; are = tt }
+
+version_again : (statement : Statement) (words : List (List ℕ)) → said first.Certificate words ≡ Some statement → Again statement
+version_again statement words e =
+    let version = begins version_of (λ version. end_with (Certificate version)) words statement e in
+    let value = Certificate version.first in
+    let rows = put_before version_of version_text (λ version. end_with (Certificate version)) version.first value [] (version_writes version.word version.first version.says) (ends value) in
+    subst Again (nothing_more value statement version.later version.goes_on) (with_first first.Certificate value refl rows)
 
 property_again : (statement : Statement) (words : List (List ℕ)) → said first.Property words ≡ Some statement → Again statement
 property_again statement words e =
@@ -244,8 +246,9 @@ pub written_line_is_read : WrittenLineIsRead
 written_line_is_read line statement e =
     let is = line_parts (is_utf8 line) (words_of line) statement e in
     let word = first_of statement in
-    let words = later_of statement in (
-      ap (λ t. line_from statement_of t (words_of (statement_text statement))) (is_utf8-from_IsUtf8 (statement_text statement) (text_said word words is.first is.words))
+    let words = later_of statement in
+    subst (λ text. (line_of text ≡ Says statement) × (behind_mark 10 text ≡ None)) (text_by_words statement) (
+      ap (λ t. line_from statement_of t (words_of (word ++ flat_map spaced words))) (is_utf8-from_IsUtf8 (word ++ flat_map spaced words) (text_said word words is.first is.words))
           ∙ ap (line_from statement_of true) (words_said word words is.first is.words)
           ∙ ap (λ t. if t then Passed else line_with (statement_of word words)) is.plain
           ∙ ap line_with is.says,

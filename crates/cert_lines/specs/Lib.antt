@@ -1,3 +1,4 @@
+pub mod Order
 pub mod Statements
 pub mod Sums
 pub mod Texts

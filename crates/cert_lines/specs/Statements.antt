@@ -8,11 +8,13 @@ use Rattle.line_words.specs.Lists.{end_with, word_then, words_then}
 use Rattle.line_words.specs.Parts.{factor_of, id_of, index_of, instance_of, multiplier_of, place_of, signed_of, weight_of}
 use Rattle.line_words.specs.declared.lines.Line.{Line}
 use Rattle.cert_lines.specs.declared.certificates.NodeForm.TheVariants as form
+use Rattle.cert_lines.specs.declared.certificates.Version.{Version}
+use Rattle.cert_lines.specs.declared.certificates.Version.TheVariants.{One, Two}
 use Rattle.cert_lines.specs.declared.statements.Claim.TheVariants as claim
 use Rattle.cert_lines.specs.declared.statements.Keyword.{Keyword}
 use Rattle.cert_lines.specs.declared.statements.Keyword.TheVariants as first
 use Rattle.cert_lines.specs.declared.statements.Statement.{Statement}
-use Rattle.cert_lines.specs.declared.statements.Statement.TheVariants.{Version, Property, Fact, Step, Proof, Node, End}
+use Rattle.cert_lines.specs.declared.statements.Statement.TheVariants.{Certificate, Property, Fact, Step, Proof, Node, End}
 
 -- the first words, in the order of their table
 abbrev pub keywords : List Keyword
@@ -43,13 +45,13 @@ word_for first.Split = codes "split"
 word_for first.Step = codes "step"
 word_for first.Trap = codes "trap"
 
--- the word `1`
-abbrev pub version_of : List ℕ → Option Statement
-version_of word = if bytes_eq word (codes "1") then Some Version else None
+-- the word `1` or `2`
+abbrev pub version_of : List ℕ → Option Version
+version_of word = if bytes_eq word (codes "1") then Some One else if bytes_eq word (codes "2") then Some Two else None
 
 -- the words after the first one
 abbrev pub said : Keyword → List (List ℕ) → Option Statement
-said first.Certificate = word_then version_of end_with
+said first.Certificate = word_then version_of (λ version. end_with (Certificate version))
 said first.Property = word_then id_of (λ id. end_with (Property id))
 said first.Flow = word_then id_of (λ name. words_then weight_of (λ weights. Fact name (claim.Flow weights)))
 said first.Trap = word_then id_of (λ name. words_then place_of (λ places. Fact name (claim.Trap places)))

@@ -1,60 +1,60 @@
 -- The canonical text of a certificate: one space between words, and a line feed after each line.
-use Rattle.std.specs.Prelude.{ℕ, List, [], ◌∷◌, ◌++◌, flat_map, codes, decimal}
+use Rattle.std.specs.Prelude.{ℕ, List, [], ◌++◌, flat_map, codes, decimal}
 use Rattle.std.specs.Fmt.{signed_decimal}
-use Rattle.line_words.specs.Texts.{all_spaced, ended, factor_text, multiplier_text, place_text, spaced, weight_text}
+use Rattle.line_words.specs.Texts.{all_spaced, ended, factor_text, instance_text, multiplier_text, place_text, spaced, weight_text}
+use Rattle.line_words.specs.declared.lines.Line.TheVariants.{Passed, Faulty, Says}
+use Rattle.cert_lines.specs.Order.{lines_of_cert}
+use Rattle.cert_lines.specs.Statements.{CertLine}
 use Rattle.cert_lines.specs.declared.certificates.Cert.{Cert}
-use Rattle.cert_lines.specs.declared.certificates.Fact.{Fact}
-use Rattle.cert_lines.specs.declared.certificates.FactKind.{FactKind}
-use Rattle.cert_lines.specs.declared.certificates.FactKind.TheVariants.{Flow, Trap, Bound}
-use Rattle.cert_lines.specs.declared.certificates.Node.{Node}
 use Rattle.cert_lines.specs.declared.certificates.NodeForm.{NodeForm}
 use Rattle.cert_lines.specs.declared.certificates.NodeForm.TheVariants.{Close, Clash, Split, Cases, Each}
-use Rattle.cert_lines.specs.declared.certificates.Step.{Step}
+use Rattle.cert_lines.specs.declared.certificates.Version.{Version}
+use Rattle.cert_lines.specs.declared.certificates.Version.TheVariants.{One, Two}
+use Rattle.cert_lines.specs.declared.statements.Claim.{Claim}
+use Rattle.cert_lines.specs.declared.statements.Claim.TheVariants as claim
+use Rattle.cert_lines.specs.declared.statements.Statement.{Statement}
+use Rattle.cert_lines.specs.declared.statements.Statement.TheVariants.{Certificate, Property, Fact, Step, Proof, Node, End}
+use Rattle.cert_lines.specs.declared.statements.StepClaim.{StepClaim}
 
--- the steps of a bound
-abbrev pub steps_of : FactKind → List Step
-steps_of (Flow weights) = []
-steps_of (Trap places) = []
-steps_of (Bound limit weights steps) = steps
+-- what a line says, without its line feed
+abbrev pub version_text : Version → List ℕ
+version_text One = codes "1"
+version_text Two = codes "2"
 
--- the line of a fact, and those of a bound's steps
-abbrev pub claim_line : List ℕ → FactKind → List ℕ
-claim_line name (Flow weights) = ended (codes "flow" ++ spaced name ++ all_spaced weight_text weights)
-claim_line name (Trap places) = ended (codes "trap" ++ spaced name ++ all_spaced place_text places)
-claim_line name (Bound limit weights steps) =
-    ended (codes "bound" ++ spaced name ++ spaced (signed_decimal limit) ++ all_spaced weight_text weights)
+abbrev pub claim_text : List ℕ → Claim → List ℕ
+claim_text name (claim.Flow weights) = codes "flow" ++ spaced name ++ all_spaced weight_text weights
+claim_text name (claim.Trap places) = codes "trap" ++ spaced name ++ all_spaced place_text places
+claim_text name (claim.Bound limit weights) = codes "bound" ++ spaced name ++ spaced (signed_decimal limit) ++ all_spaced weight_text weights
 
-abbrev pub step_instance_text : Step → List ℕ
-step_instance_text step = step.transition ++ 64 ∷ decimal step.binding
-
-abbrev pub step_line : Step → List ℕ
-step_line step =
-    ended (codes "step"
-    ++ spaced (step_instance_text step)
+abbrev pub step_text : StepClaim → List ℕ
+step_text step =
+    codes "step"
+    ++ spaced (instance_text step.origin)
     ++ spaced (signed_decimal step.scale)
     ++ spaced (signed_decimal step.keep)
-    ++ all_spaced factor_text step.factors)
+    ++ all_spaced factor_text step.factors
 
-abbrev pub fact_lines : Fact → List ℕ
-fact_lines fact = claim_line fact.name fact.kind ++ flat_map step_line (steps_of fact.kind)
+abbrev pub node_text : NodeForm → List ℕ
+node_text (Close multipliers) = codes "close" ++ all_spaced multiplier_text multipliers
+node_text (Clash place) = codes "clash" ++ spaced (place_text place)
+node_text (Split limit weights) = codes "split" ++ spaced (signed_decimal limit) ++ all_spaced weight_text weights
+node_text (Cases choice branches) = codes "cases" ++ spaced (decimal choice) ++ spaced (decimal branches)
+node_text (Each choice) = codes "each" ++ spaced (decimal choice)
 
--- the line of a node
-abbrev pub form_line : NodeForm → List ℕ
-form_line (Close multipliers) = ended (codes "close" ++ all_spaced multiplier_text multipliers)
-form_line (Clash place) = ended (codes "clash" ++ spaced (place_text place))
-form_line (Split limit weights) = ended (codes "split" ++ spaced (signed_decimal limit) ++ all_spaced weight_text weights)
-form_line (Cases choice branches) = ended (codes "cases" ++ spaced (decimal choice) ++ spaced (decimal branches))
-form_line (Each choice) = ended (codes "each" ++ spaced (decimal choice))
+abbrev pub statement_text : Statement → List ℕ
+statement_text (Certificate version) = codes "certificate" ++ spaced (version_text version)
+statement_text (Property id) = codes "property" ++ spaced id
+statement_text (Fact name said) = claim_text name said
+statement_text (Step step) = step_text step
+statement_text Proof = codes "proof"
+statement_text (Node form) = node_text form
+statement_text End = codes "end"
 
-abbrev pub node_line : Node → List ℕ
-node_line node = form_line node.form
+-- a line that says something, and all lines
+abbrev pub line_text : ℕ × CertLine → List ℕ
+line_text (number, Passed) = []
+line_text (number, Faulty) = []
+line_text (number, Says statement) = ended (statement_text statement)
 
--- all lines
 abbrev pub certificate_text : Cert → List ℕ
-certificate_text cert =
-    ended (codes "certificate" ++ spaced (codes "1"))
-    ++ ended (codes "property" ++ spaced cert.property)
-    ++ flat_map fact_lines cert.facts
-    ++ ended (codes "proof")
-    ++ flat_map node_line cert.tree
-    ++ ended (codes "end")
+certificate_text cert = flat_map line_text (lines_of_cert cert)

@@ -85,13 +85,33 @@ pub struct Node {
     pub form: NodeForm,
 }
 
-/// A certificate of version 1.
+/// The version of a certificate.
+#[derive(Clone, Copy, Debug, PartialEq, Eq)]
+pub enum Version {
+    /// One property, before the facts.
+    One,
+    /// Any number of properties, behind the facts that they share.
+    Two,
+}
+
+/// A property and the case tree for it.
 #[derive(Debug, Drop)]
-pub struct Cert {
-    /// The id of the property that it is for.
+pub struct Section {
+    /// The number of the property's line, from 1.
+    pub line: u32,
+    /// The id of the property.
     pub property: Name,
-    /// The facts in file order.
-    pub facts: Items<Fact>,
     /// The nodes of the tree, each before its branches and those in order.
     pub tree: Items<Node>,
+}
+
+/// A certificate.
+#[derive(Debug, Drop)]
+pub struct Cert {
+    /// The version that it is written in.
+    pub version: Version,
+    /// The facts in file order.
+    pub facts: Items<Fact>,
+    /// The properties with their trees, in file order; exactly one in version 1.
+    pub sections: Items<Section>,
 }

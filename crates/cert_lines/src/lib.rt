@@ -9,7 +9,7 @@ mod statements;
 mod sums;
 mod texts;
 
-pub use certificates::{Cert, Fact, FactKind, Node, NodeForm, Step};
+pub use certificates::{Cert, Fact, FactKind, Node, NodeForm, Section, Step, Version};
 pub use laws::written_line_is_read;
 pub use line_words::{
     Factor, InstanceRef, Line, Multiplier, PlaceRef, Weight, cut_at, read_factor, read_instance,

@@ -1,7 +1,7 @@
 ghost use Rattle.std.specs.Prelude.{◌≡◌, IfOk};
 ghost use Rattle.cert_lines.specs.Statements.{keyword_of, line_of, said, statement_of, word_for};
 
-use crate::certificates::NodeForm;
+use crate::certificates::{NodeForm, Version};
 use crate::statements::{Claim, Keyword, Statement, StepClaim};
 use line_words::{InstanceRef, Line, LineForm, PlaceRef, Words, no_more, read_list, read_next};
 use name_tables::{Name, cert_words};
@@ -107,10 +107,12 @@ fn read_words(
 fn read_version(words: &mut Words<'_>) -> Option<Statement>
     ensures { result ≡ said Keyword.Certificate words.old }
 {
-    match words.next() {
-        Some(word) if word == b"1".as_slice() => no_more(words, Statement::Version),
-        _ => None,
-    }
+    let version = match words.next() {
+        Some(word) if word == b"1".as_slice() => Version::One,
+        Some(word) if word == b"2".as_slice() => Version::Two,
+        _ => return None,
+    };
+    no_more(words, Statement::Certificate(version))
 }
 
 fn read_property(alloc: Global, words: &mut Words<'_>) -> Result<Option<Statement>, Memory>

@@ -1,4 +1,4 @@
-use crate::certificates::NodeForm;
+use crate::certificates::{NodeForm, Version};
 use line_words::{Factor, InstanceRef, PlaceRef, Weight};
 use name_tables::Name;
 use sqlite_items::Items;
@@ -41,7 +41,7 @@ pub struct StepClaim {
 /// What one line says, without its number.
 #[derive(Drop)]
 pub enum Statement {
-    Version,
+    Certificate(Version),
     Property(Name),
     Fact { name: Name, claim: Claim },
     Step(StepClaim),

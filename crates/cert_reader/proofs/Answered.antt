@@ -8,24 +8,20 @@ use Rattle.cert_lines.specs.declared.certificates.Cert.{Cert}
 use Rattle.cert_lines.specs.Statements.{CertLine}
 use Rattle.line_words.specs.declared.lines.Line.TheVariants.{Passed, Faulty, Says}
 use Rattle.cert_lines.specs.declared.statements.Statement.{Statement}
-use Rattle.cert_reader.specs.Grammar.{HasFault, HasLineFault, IsAtFault, IsCertificate, IsFaultless, IsInOrder, IsRefusal, IsSomeTree, HaveOneAnswer, Spells, spoken, spoken_from, unless_passed}
+use Rattle.cert_reader.specs.Grammar.{HasFault, HasLineFault, IsAtFault, IsCertificate, IsFaultless, IsInOrder, IsRefusal, HasTrees, HaveOneAnswer, Spells, spoken, spoken_from, unless_passed}
 use Rattle.cert_reader.specs.Reading.{DraftState, IsAnswer, after, certificate_of, finished_at, going_on, nothing_read, read_lines, take_said, take_statement}
 use Rattle.cert_reader.specs.declared.faults.CertFault.{CertFault}
 use Rattle.cert_reader.specs.declared.faults.CertFault.TheVariants as fault
 use Rattle.cert_reader.specs.declared.stages.Stage.{Stage}
 use Rattle.cert_reader.specs.declared.stages.Stage.TheVariants as stage
 use Rattle.cert_reader.proofs.LineFaults.{faulty_fault, line_fault, no_line_fault}
-use Rattle.cert_reader.proofs.Orders.{Follows, Past, follow_on, follow_once, follow_order, past_after, past_nothing, whole}
-use Rattle.cert_reader.proofs.Spelled.{reads_spelled, spells_read}
+use Rattle.cert_reader.proofs.Lists.{heads, tails}
+use Rattle.cert_reader.proofs.Orders.{Follows, follow_on, follow_once, follow_order, whole}
+use Rattle.cert_reader.proofs.Read.{Past, past_after, past_nothing}
+use Rattle.cert_reader.proofs.Spelled.{all_trees, reads_spelled, spells_read}
 use Rattle.cert_reader.proofs.Unnumbered.{taken}
 
 -- where a list is cut in two ways
-tails : {X : Type 0} (x y : X) (xs ys : List X) → x ∷ xs ≡ y ∷ ys → xs ≡ ys
-tails x y xs ys e = cc
-
-heads : {X : Type 0} (x y : X) (xs ys : List X) → x ∷ xs ≡ y ∷ ys → x ≡ y
-heads x y xs ys e = cc
-
 not_empty : {X : Type 0} (xs : List X) (y : X) (ys : List X) → [] ≡ xs ++ y ∷ ys → ⊥
 not_empty [] y ys e = cc
 not_empty (x ∷ xs) y ys e = cc
@@ -94,16 +90,12 @@ reached_more front draft next number statement reached e =
 -- the fault that is answered is the first one
 abbrev Found : List (ℕ × CertLine) → ℕ → CertFault → Type 0
 Found lines end refusal =
-    IsAtFault lines refusal ⊎ (IsFaultless lines × ((cert : Cert) → IsInOrder lines cert → IsSomeTree cert.tree → ⊥) × (refusal ≡ fault.Line end))
+    IsAtFault lines refusal ⊎ (IsFaultless lines × ((cert : Cert) → IsInOrder lines cert → HasTrees cert.sections → ⊥) × (refusal ≡ fault.Line end))
 
 unfinished_at : (at : Stage) (number : ℕ) (draft : DraftState) (refusal : CertFault) → draft.stage ≡ at → finished_at at number draft ≡ Err refusal
     → (refusal ≡ fault.Line number) × (draft.stage ≡ stage.Nothing → ⊥)
-unfinished_at stage.Version number draft refusal is e = (cc, λ over. cc)
-unfinished_at stage.Property number draft refusal is e = (cc, λ over. cc)
-unfinished_at stage.Facts number draft refusal is e = (cc, λ over. cc)
-unfinished_at stage.Tree number draft refusal is e = (cc, λ over. cc)
-unfinished_at stage.End number draft refusal is e = (cc, λ over. cc)
 unfinished_at stage.Nothing number draft refusal is e = absurd (cc)
+unfinished_at at number draft refusal is e = (cc, λ over. cc)
 
 found : (lines : List (List ℕ)) (number : ℕ) (draft : DraftState) (front : List (ℕ × CertLine)) (refusal : CertFault) → Reached front draft
     → read_lines number draft lines ≡ Err refusal → Found (front ++ spoken_from number lines) (number + length lines) refusal
@@ -111,8 +103,8 @@ found [] number draft front refusal reached e =
     let end = unfinished_at draft.stage number draft refusal refl e in
     subst (λ w. Found w (number + 0) refusal) (sym (append-nil front)) (inr (
       reached.faultless,
-      λ cert order tree.
-          let same = follow_once nothing_read draft (whole cert) front reached.follows (follow_order front cert tree.0 order tree.1) in
+      λ cert order trees.
+          let same = follow_once nothing_read draft (whole cert) front reached.follows (follow_order front cert order trees) in
           end.1 (ap (λ d. d.stage) same),
       end.0 ∙ ap fault.Line (let none : number ≡ number + 0 = omega arith in none),
     ))
@@ -225,7 +217,7 @@ one_fault bytes one other (inr a) (inr b) = a.2 ∙ sym b.2
 pub fault_or_spelled : (bytes : List ℕ) (cert : Cert) (refusal : CertFault) → Spells bytes cert → HasFault bytes refusal → ⊥
 fault_or_spelled bytes cert refusal spells (inl a) =
     no_at_fault (spoken bytes) refusal (ok_faultless (lines_of bytes) 1 nothing_read [] cert begun (reads_spelled bytes cert spells)) a
-fault_or_spelled bytes cert refusal spells (inr a) = a.1 cert spells.order (256, spells.tree)
+fault_or_spelled bytes cert refusal spells (inr a) = a.1 cert spells.order (all_trees cert.sections spells.trees)
 
 pub reads_fault : (bytes : List ℕ) (refusal : CertFault) → HasFault bytes refusal → certificate_of bytes ≡ Err refusal
 reads_fault bytes refusal has = by (certificate_of bytes) refl

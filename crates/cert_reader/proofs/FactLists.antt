@@ -10,8 +10,8 @@ use Rattle.cert_lines.specs.declared.certificates.FactKind.{FactKind}
 use Rattle.cert_lines.specs.declared.certificates.FactKind.TheVariants.{Flow, Trap, Bound}
 use Rattle.cert_lines.specs.declared.certificates.Step.{Step}
 use Rattle.line_words.specs.declared.items.InstanceRef.{InstanceRef}
-use Rattle.cert_reader.specs.Reading.{grown, is_bound, last_fact, names_of, origin_of, origins_of, same_origin, stepped, takes_steps, with_step}
-use Rattle.cert_lines.specs.Texts.{steps_of}
+use Rattle.cert_reader.specs.Reading.{grown, is_bound, last_fact, names_of, origins_of, same_origin, stepped, takes_steps, with_step}
+use Rattle.cert_lines.specs.Order.{origin_of, steps_of}
 
 pub last_of_grown : (facts : List Fact) (fact : Fact) → last_fact (facts ++ fact ∷ []) ≡ Some fact
 last_of_grown [] fact = refl

@@ -2,7 +2,9 @@ mod Answered
 mod FactLists
 mod Limits
 mod LineFaults
+mod Lists
 mod Orders
+mod Read
 mod Spelled
 mod Trees
 mod Unnumbered

@@ -1,9 +1,11 @@
--- Which lines have been read, by what the draft has, and which may come.
+-- Which lines may come: lines in order can be followed, and each draft has lines that lead to an end.
 use Rattle.std.proofs.Common.{◌≡◌, ℕ, zero, suc, ◌+◌, true, List, [], ◌∷◌, ◌++◌, length, map, flat_map, refl, sym, ap, subst, ◌∙◌, arith}
 use Rattle.std.specs.Prelude.{◌-◌}
-use Rattle.std.proofs.lemmas.Bool.{false≢true}
-use Rattle.std.proofs.lemmas.Grind.{flat_map-append}
-use Rattle.std.proofs.lemmas.List.{append_assoc, append-nil, map-append}
+use Rattle.std.specs.List.{AllByRecursion}
+use Rattle.std.proofs.lemmas.List.{append_assoc, append-nil, length-append}
+use Rattle.line_words.specs.declared.lines.Line.TheVariants.{Passed, Faulty, Says}
+use Rattle.cert_lines.specs.Order.{body_lines, end_line, fact_lines, lines_of_cert, node_line, property_lines, section_lines, step_line, tree_lines, version_line}
+use Rattle.cert_lines.specs.Statements.{CertLine}
 use Rattle.cert_lines.specs.declared.certificates.Cert.{Cert}
 use Rattle.cert_lines.specs.declared.certificates.Fact.{Fact}
 use Rattle.cert_lines.specs.declared.certificates.FactKind.{FactKind}
@@ -11,22 +13,20 @@ use Rattle.cert_lines.specs.declared.certificates.FactKind.TheVariants.{Flow, Tr
 use Rattle.cert_lines.specs.declared.certificates.Node.{Node}
 use Rattle.cert_lines.specs.declared.certificates.NodeForm.{NodeForm}
 use Rattle.cert_lines.specs.declared.certificates.NodeForm.TheVariants.{Close}
+use Rattle.cert_lines.specs.declared.certificates.Section.{Section}
 use Rattle.cert_lines.specs.declared.certificates.Step.{Step}
-use Rattle.cert_lines.specs.declared.statements.Claim.{Claim}
-use Rattle.cert_lines.specs.declared.statements.Claim.TheVariants as claim
-use Rattle.cert_lines.specs.Statements.{CertLine}
-use Rattle.line_words.specs.declared.lines.Line.TheVariants.{Says}
+use Rattle.cert_lines.specs.declared.certificates.Version.{Version}
+use Rattle.cert_lines.specs.declared.certificates.Version.TheVariants.{One, Two}
 use Rattle.cert_lines.specs.declared.statements.Statement.{Statement}
 use Rattle.cert_lines.specs.declared.statements.Statement.TheVariants as say
-use Rattle.cert_lines.specs.declared.statements.StepClaim.{StepClaim}
-use Rattle.cert_lines.specs.Texts.{steps_of}
-use Rattle.cert_reader.specs.Grammar.{IsInOrder, IsSomeTree, IsTree, Stands, claim_of, said_by_fact, said_by_node, said_by_step}
 use Rattle.prefix_trees.specs.Trees.{opens_after, still_open}
-use Rattle.cert_reader.specs.Reading.{DraftState, after, branches_of, branches_on, cert_of, fact_at, grown, is_bound, kind_of, last_fact, may_stand, may_stand_at, node_at, nothing_read, stage_after, step_at, stepped, takes_steps, with_step}
+use Rattle.cert_reader.specs.Grammar.{HasItsSections, HasTrees, IsInOrder, IsSomeTree, IsTree, Stands, kept}
+use Rattle.cert_reader.specs.Reading.{DraftState, after, branches_of, branches_on, cert_of, draft_of, grown_section, ids_of, last_fact, may_stand, may_stand_at, no_section, node_at, nothing_read, section_of, settled_by, step_at, takes_steps, with_step}
 use Rattle.cert_reader.specs.declared.stages.Stage.{Stage}
 use Rattle.cert_reader.specs.declared.stages.Stage.TheVariants as stage
 use Rattle.cert_reader.proofs.FactLists.{last_of_grown, with_step_of_grown}
-use Rattle.prefix_trees.proofs.Climbs.{grown_more, grown_tree, grown_wider, one_less_than, tree_grown}
+use Rattle.prefix_trees.proofs.Climbs.{grown_tree, one_less_than}
+use Rattle.cert_reader.proofs.Read.{FitsAt, IsOpen, Past, one_or_two, past_after, past_nothing, read_at}
 use Rattle.cert_reader.proofs.Trees.{Climbs, Grown}
 
 -- a draft that goes on over lines, by their order alone
@@ -57,219 +57,6 @@ follow_once draft one other (line ∷ lines) (statement, is, stands, a) (again, 
     follow_once (after line.0 draft statement) one other lines a
     (subst (λ s. Follows (after line.0 draft s) lines other) (says_one again statement (sym is_again ∙ is)) b)
 
--- a draft by its parts
-abbrev pub at : Stage → List ℕ → List Fact → List Node → List ℕ → DraftState
-at stage id facts tree opens = record { stage = stage; property = id; facts = facts; tree = tree; opens = opens }
-
--- the lines up to the facts, and up to the nodes
-abbrev pub fact_front : ℕ → ℕ → List ℕ → List Fact → List (ℕ × CertLine)
-fact_front version property id facts = (version, Says say.Version) ∷ (property, Says (say.Property id)) ∷ flat_map said_by_fact facts
-
-abbrev pub tree_front : ℕ → ℕ → ℕ → List ℕ → List Fact → List Node → List (ℕ × CertLine)
-tree_front version property proof id facts tree =
-    (version, Says say.Version) ∷ (property, Says (say.Property id)) ∷ (flat_map said_by_fact facts ++ (proof, Says say.Proof) ∷ map said_by_node tree)
-
--- before the root nothing is open, and behind it something
-abbrev pub IsOpen : List Node → List ℕ → Type 0
-IsOpen [] opens = opens ≡ []
-IsOpen (root ∷ nodes) opens = (count : ℕ) × (counts : List ℕ) × (opens ≡ suc count ∷ counts)
-
--- the lines that have been read
-abbrev pub PastAt : Stage → List (ℕ × CertLine) → List ℕ → List Fact → List Node → List ℕ → Type 0
-PastAt stage.Version front id facts tree opens = (front ≡ []) × (facts ≡ []) × (tree ≡ []) × (opens ≡ [])
-PastAt stage.Property front id facts tree opens =
-    (version : ℕ) × (front ≡ (version, Says say.Version) ∷ []) × (facts ≡ []) × (tree ≡ []) × (opens ≡ [])
-PastAt stage.Facts front id facts tree opens =
-    (version : ℕ) × (property : ℕ) × (front ≡ fact_front version property id facts) × (tree ≡ []) × (opens ≡ [])
-PastAt stage.Tree front id facts tree opens =
-    (version : ℕ)
-    × (property : ℕ)
-    × (proof : ℕ)
-    × (front ≡ tree_front version property proof id facts tree)
-    × IsOpen tree opens
-    × ((most : ℕ) × Grown most tree opens)
-PastAt stage.End front id facts tree opens =
-    (version : ℕ)
-    × (property : ℕ)
-    × (proof : ℕ)
-    × (front ≡ tree_front version property proof id facts tree)
-    × (opens ≡ [])
-    × IsSomeTree tree
-PastAt stage.Nothing front id facts tree opens =
-    IsInOrder front (record { property = id; facts = facts; tree = tree }) × (opens ≡ []) × IsSomeTree tree
-
-abbrev pub Past : DraftState → List (ℕ × CertLine) → Type 0
-Past draft front = PastAt draft.stage front draft.property draft.facts draft.tree draft.opens
-
-pub past_nothing : Past nothing_read []
-past_nothing = (refl, refl, refl, refl)
-
--- one more fact, one more step of the last fact, and one more node
-claim_begun : (said : Claim) → claim_of (kind_of said) ≡ said
-claim_begun (claim.Flow weights) = refl
-claim_begun (claim.Trap places) = refl
-claim_begun (claim.Bound limit weights) = refl
-
-pub no_steps_begun : (said : Claim) → steps_of (kind_of said) ≡ []
-no_steps_begun (claim.Flow weights) = refl
-no_steps_begun (claim.Trap places) = refl
-no_steps_begun (claim.Bound limit weights) = refl
-
-fact_begun : (number : ℕ) (name : List ℕ) (said : Claim) → said_by_fact (fact_at number name said) ≡ (number, Says (say.Fact name said)) ∷ []
-fact_begun number name said =
-    ap (λ c. (number, Says (say.Fact name c)) ∷ map said_by_step (steps_of (kind_of said))) (claim_begun said)
-    ∙ ap (λ steps. (number, Says (say.Fact name said)) ∷ map said_by_step steps) (no_steps_begun said)
-
-more_facts : (number : ℕ) (name : List ℕ) (said : Claim) (facts : List Fact)
-    → flat_map said_by_fact (facts ++ fact_at number name said ∷ []) ≡ flat_map said_by_fact facts ++ (number, Says (say.Fact name said)) ∷ []
-more_facts number name said facts =
-    flat_map-append said_by_fact facts (fact_at number name said ∷ [])
-    ∙ ap (λ w. flat_map said_by_fact facts ++ w) (append-nil (said_by_fact (fact_at number name said)) ∙ fact_begun number name said)
-
-abbrev step_line : ℕ → StepClaim → ℕ × CertLine
-step_line number step = (number, Says (say.Step step))
-
-more_steps : (number line : ℕ) (name : List ℕ) (kind : FactKind) (step : StepClaim) → is_bound kind ≡ true
-    → said_by_fact (stepped (record { line = line; name = name; kind = kind }) (step_at number step))
-    ≡ said_by_fact (record { line = line; name = name; kind = kind }) ++ step_line number step ∷ []
-more_steps number line name (Flow weights) step e = absurd (false≢true e)
-more_steps number line name (Trap places) step e = absurd (false≢true e)
-more_steps number line name (Bound limit weights steps) step e =
-    ap (λ w. (line, Says (say.Fact name (claim.Bound limit weights))) ∷ w) (map-append said_by_step steps (step_at number step ∷ []))
-
-last_steps : (number : ℕ) (step : StepClaim) (facts : List Fact) → takes_steps (last_fact facts) ≡ true
-    → flat_map said_by_fact (with_step facts (step_at number step)) ≡ flat_map said_by_fact facts ++ step_line number step ∷ []
-last_steps number step [] e = absurd (false≢true e)
-last_steps number step (fact ∷ []) e =
-    append-nil (said_by_fact (stepped fact (step_at number step))) ∙ more_steps number fact.line fact.name fact.kind step e
-    ∙ ap (λ w. w ++ step_line number step ∷ []) (sym (append-nil (said_by_fact fact)))
-last_steps number step (fact ∷ next ∷ facts) e =
-    ap (λ w. said_by_fact fact ++ w) (last_steps number step (next ∷ facts) e)
-    ∙ sym (append_assoc (said_by_fact fact) (flat_map said_by_fact (next ∷ facts)) (step_line number step ∷ []))
-
-front_more : (version property proof : ℕ) (id : List ℕ) (facts : List Fact) (tree : List Node) (number : ℕ) (form : NodeForm)
-    → tree_front version property proof id facts tree ++ (number, Says (say.Node form)) ∷ [] ≡ tree_front version property proof id facts (tree ++ node_at number form ∷ [])
-front_more version property proof id facts tree number form =
-    ap (λ w. (version, Says say.Version) ∷ (property, Says (say.Property id)) ∷ w)
-    (append_assoc (flat_map said_by_fact facts) ((proof, Says say.Proof) ∷ map said_by_node tree) ((number, Says (say.Node form)) ∷ [])
-    ∙ ap (λ w. flat_map said_by_fact facts ++ (proof, Says say.Proof) ∷ w) (sym (map-append said_by_node tree (node_at number form ∷ []))))
-
--- the open nodes after one more node
-grown_node : (tree : List Node) (opens : List ℕ) (node : Node) → IsOpen tree opens → (most : ℕ) → Grown most tree opens
-    → (wider : ℕ) × Grown wider (tree ++ node ∷ []) (opens_after (branches_of node.form) opens)
-grown_node [] opens node is most grown = (1, (omega arith, ap (opens_after (branches_of node.form)) is))
-grown_node (root ∷ nodes) opens node (count, counts, is) most grown =
-    let wide = most + suc (suc (length counts)) in
-    let there = subst (λ w. Grown most (root ∷ nodes) w) is grown in (
-      wide,
-      subst (λ w. Grown wide ((root ∷ nodes) ++ node ∷ []) (opens_after (branches_of node.form) w)) (sym is)
-          (grown_more branches_on wide node (suc count) counts (root ∷ nodes) (omega arith) (grown_wider branches_on most wide (omega arith) (root ∷ nodes) (suc count ∷ counts) there)),
-    )
-
-some_more : (tree : List Node) (node : Node) → (root : Node) × ((nodes : List Node) × (tree ++ node ∷ [] ≡ root ∷ nodes))
-some_more [] node = (node, ([], refl))
-some_more (root ∷ nodes) node = (root, (nodes ++ node ∷ [], refl))
-
-past_node : (version property proof : ℕ) (front : List (ℕ × CertLine)) (id : List ℕ) (facts : List Fact) (tree : List Node) (opens : List ℕ)
-    → front ≡ tree_front version property proof id facts tree → (most : ℕ) → (root : Node) (nodes : List Node) → tree ≡ root ∷ nodes
-    → Grown most tree (still_open opens) → PastAt (stage_after (still_open opens)) front id facts tree (still_open opens)
-past_node version property proof front id facts tree [] is most root nodes some grown =
-    (version, property, proof, is, refl, (most, subst (IsTree most) (sym some) (tree_grown branches_on most root nodes (subst (λ w. Grown most w []) some grown))))
-past_node version property proof front id facts tree (zero ∷ counts) is most root nodes some grown =
-    past_node version property proof front id facts tree counts is most root nodes some grown
-past_node version property proof front id facts tree (suc count ∷ counts) is most root nodes some grown =
-    (version, property, proof, is, subst (λ w. IsOpen w (suc count ∷ counts)) (sym some) (count, counts, refl), (most, grown))
-
-past_at : (number : ℕ) (stage : Stage) (id : List ℕ) (facts : List Fact) (tree : List Node) (opens : List ℕ) (front : List (ℕ × CertLine)) (statement : Statement)
-    → PastAt stage front id facts tree opens → may_stand_at stage facts statement ≡ true
-    → Past (after number (at stage id facts tree opens) statement) (front ++ (number, Says statement) ∷ [])
-past_at number stage.Version id facts tree opens front say.Version (is, no_facts, no_tree, no_opens) e =
-    (number, ap (λ w. w ++ (number, Says say.Version) ∷ []) is, no_facts, no_tree, no_opens)
-past_at number stage.Version id facts tree opens front (say.Property name) past e = absurd (false≢true e)
-past_at number stage.Version id facts tree opens front (say.Fact name said) past e = absurd (false≢true e)
-past_at number stage.Version id facts tree opens front (say.Step step) past e = absurd (false≢true e)
-past_at number stage.Version id facts tree opens front say.Proof past e = absurd (false≢true e)
-past_at number stage.Version id facts tree opens front (say.Node form) past e = absurd (false≢true e)
-past_at number stage.Version id facts tree opens front say.End past e = absurd (false≢true e)
-past_at number stage.Property id facts tree opens front (say.Property name) (version, is, none, no_tree, no_opens) e = (
-  version,
-  number,
-  ap (λ w. w ++ (number, Says (say.Property name)) ∷ []) is ∙ ap (λ fs. fact_front version number name fs) (sym none),
-  no_tree,
-  no_opens,
-)
-past_at number stage.Property id facts tree opens front say.Version past e = absurd (false≢true e)
-past_at number stage.Property id facts tree opens front (say.Fact name said) past e = absurd (false≢true e)
-past_at number stage.Property id facts tree opens front (say.Step step) past e = absurd (false≢true e)
-past_at number stage.Property id facts tree opens front say.Proof past e = absurd (false≢true e)
-past_at number stage.Property id facts tree opens front (say.Node form) past e = absurd (false≢true e)
-past_at number stage.Property id facts tree opens front say.End past e = absurd (false≢true e)
-past_at number stage.Facts id facts tree opens front (say.Fact name said) (version, property, is, no_tree, no_opens) e = (
-  version,
-  property,
-  ap (λ w. w ++ (number, Says (say.Fact name said)) ∷ []) is
-      ∙ ap (λ w. (version, Says say.Version) ∷ (property, Says (say.Property id)) ∷ w) (sym (more_facts number name said facts)),
-  no_tree,
-  no_opens,
-)
-past_at number stage.Facts id facts tree opens front (say.Step step) (version, property, is, no_tree, no_opens) e = (
-  version,
-  property,
-  ap (λ w. w ++ step_line number step ∷ []) is
-      ∙ ap (λ w. (version, Says say.Version) ∷ (property, Says (say.Property id)) ∷ w) (sym (last_steps number step facts e)),
-  no_tree,
-  no_opens,
-)
-past_at number stage.Facts id facts tree opens front say.Proof (version, property, is, no_tree, no_opens) e = (
-  version,
-  property,
-  number,
-  ap (λ w. w ++ (number, Says say.Proof) ∷ []) is ∙ ap (tree_front version property number id facts) (sym no_tree),
-  subst (λ w. IsOpen w opens) (sym no_tree) no_opens,
-  (0, subst (λ w. Grown 0 w opens) (sym no_tree) no_opens),
-)
-past_at number stage.Facts id facts tree opens front say.Version past e = absurd (false≢true e)
-past_at number stage.Facts id facts tree opens front (say.Property name) past e = absurd (false≢true e)
-past_at number stage.Facts id facts tree opens front (say.Node form) past e = absurd (false≢true e)
-past_at number stage.Facts id facts tree opens front say.End past e = absurd (false≢true e)
-past_at number stage.Tree id facts tree opens front (say.Node form) (version, property, proof, is, open_now, (most, grown)) e =
-    let node = node_at number form in
-    let wider = grown_node tree opens node open_now most grown in
-    let some = some_more tree node in
-    past_node version property proof _ id facts (tree ++ node ∷ []) (branches_of form ∷ _)
-    (ap (λ w. w ++ (number, Says (say.Node form)) ∷ []) is ∙ front_more version property proof id facts tree number form)
-    wider.0 some.0 some.1.0 some.1.1 wider.1
-past_at number stage.Tree id facts tree opens front say.Version past e = absurd (false≢true e)
-past_at number stage.Tree id facts tree opens front (say.Property name) past e = absurd (false≢true e)
-past_at number stage.Tree id facts tree opens front (say.Fact name said) past e = absurd (false≢true e)
-past_at number stage.Tree id facts tree opens front (say.Step step) past e = absurd (false≢true e)
-past_at number stage.Tree id facts tree opens front say.Proof past e = absurd (false≢true e)
-past_at number stage.Tree id facts tree opens front say.End past e = absurd (false≢true e)
-past_at number stage.End id facts tree opens front say.End (version, property, proof, is, no_opens, is_tree) e = (
-  (
-    version,
-    property,
-    proof,
-    number,
-    ap (λ w. w ++ (number, Says say.End) ∷ []) is
-        ∙ ap (λ w. (version, Says say.Version) ∷ (property, Says (say.Property id)) ∷ w)
-        (append_assoc (flat_map said_by_fact facts) ((proof, Says say.Proof) ∷ map said_by_node tree) ((number, Says say.End) ∷ [])),
-  ),
-  no_opens,
-  is_tree,
-)
-past_at number stage.End id facts tree opens front say.Version past e = absurd (false≢true e)
-past_at number stage.End id facts tree opens front (say.Property name) past e = absurd (false≢true e)
-past_at number stage.End id facts tree opens front (say.Fact name said) past e = absurd (false≢true e)
-past_at number stage.End id facts tree opens front (say.Step step) past e = absurd (false≢true e)
-past_at number stage.End id facts tree opens front say.Proof past e = absurd (false≢true e)
-past_at number stage.End id facts tree opens front (say.Node form) past e = absurd (false≢true e)
-past_at number stage.Nothing id facts tree opens front statement past e = absurd (false≢true e)
-
-pub past_after : (number : ℕ) (draft : DraftState) (front : List (ℕ × CertLine)) (statement : Statement) → Past draft front → may_stand draft statement ≡ true
-    → Past (after number draft statement) (front ++ (number, Says statement) ∷ [])
-past_after number draft front statement past e = past_at number draft.stage draft.property draft.facts draft.tree draft.opens front statement past e
-
 pub past_lines : (draft last : DraftState) (front lines : List (ℕ × CertLine)) → Past draft front → Follows draft lines last → Past last (front ++ lines)
 past_lines draft last front [] past follows = subst (λ w. Past last w) (sym (append-nil front)) (subst (λ d. Past d front) (sym follows) past)
 past_lines draft last front (line ∷ lines) past (statement, is, stands, follows) =
@@ -278,155 +65,297 @@ past_lines draft last front (line ∷ lines) past (statement, is, stands, follow
     (subst (λ w. Past (after line.0 draft statement) (front ++ (line.0, w) ∷ [])) (sym is) (past_after line.0 draft front statement past stands))
     follows)
 
--- lines in order can be followed
-follow_steps : (line : ℕ) (name : List ℕ) (limit : _) (weights : _) (facts : List Fact) (id : List ℕ) (last : DraftState) (rest : List (ℕ × CertLine)) (done steps : List Step)
-    → Follows (at stage.Facts id (facts ++ record { line = line; name = name; kind = Bound limit weights (done ++ steps) } ∷ []) [] []) rest last
-    → Follows (at stage.Facts id (facts ++ record { line = line; name = name; kind = Bound limit weights done } ∷ []) [] []) (map said_by_step steps ++ rest) last
-follow_steps line name limit weights facts id last rest done [] follows =
-    subst (λ w. Follows (at stage.Facts id (facts ++ record { line = line; name = name; kind = Bound limit weights w } ∷ []) [] []) rest last) (append-nil done) follows
-follow_steps line name limit weights facts id last rest done (step ∷ steps) follows =
-    let fact : Fact = record { line = line; name = name; kind = Bound limit weights done } in
-    let again = follow_steps line name limit weights facts id last rest (done ++ step ∷ []) steps
-    (subst (λ w. Follows (at stage.Facts id (facts ++ record { line = line; name = name; kind = Bound limit weights w } ∷ []) [] []) rest last) (sym (append_assoc done (step ∷ []) steps)) follows) in (
-      _,
+-- the numbers that aren't kept don't matter
+kept_says : (number : ℕ) (statement : Statement) → (kept (number, Says statement)).1 ≡ Says statement
+kept_says number (say.Certificate version) = refl
+kept_says number (say.Property id) = refl
+kept_says number (say.Fact name said) = refl
+kept_says number (say.Step step) = refl
+kept_says number say.Proof = refl
+kept_says number (say.Node form) = refl
+kept_says number say.End = refl
+
+kept_after : (number : ℕ) (draft : DraftState) (statement : Statement) → after (kept (number, Says statement)).0 draft statement ≡ after number draft statement
+kept_after number draft (say.Certificate version) = refl
+kept_after number draft (say.Property id) = refl
+kept_after number draft (say.Fact name said) = refl
+kept_after number draft (say.Step step) = refl
+kept_after number draft say.Proof = refl
+kept_after number draft (say.Node form) = refl
+kept_after number draft say.End = refl
+
+follow_kept : (lines : List (ℕ × CertLine)) (draft last : DraftState) → Follows draft (map kept lines) last → Follows draft lines last
+follow_kept [] draft last follows = follows
+follow_kept ((number, Passed) ∷ lines) draft last (statement, is, stands, later) = absurd (cc)
+follow_kept ((number, Faulty) ∷ lines) draft last (statement, is, stands, later) = absurd (cc)
+follow_kept ((number, Says said) ∷ lines) draft last (statement, is, stands, later) =
+    let same : said ≡ statement = says_one said statement (sym (kept_says number said) ∙ is) in (
+      said,
       refl,
-      ap takes_steps (last_of_grown facts fact),
-      subst (λ fs. Follows (at stage.Facts id fs [] []) (map said_by_step steps ++ rest) last) (sym (with_step_of_grown facts fact step)) again,
+      subst (λ s. may_stand draft s ≡ true) (sym same) stands,
+      follow_kept lines (after number draft said) last
+          (subst (λ d. Follows d (map kept lines) last) (kept_after number draft said)
+          (subst (λ s. Follows (after (kept (number, Says said)).0 draft s) (map kept lines) last) (sym same) later)),
     )
 
-follow_fact : (fact : Fact) (facts : List Fact) (id : List ℕ) (last : DraftState) (rest : List (ℕ × CertLine))
-    → Follows (at stage.Facts id (facts ++ fact ∷ []) [] []) rest last → Follows (at stage.Facts id facts [] []) (said_by_fact fact ++ rest) last
-follow_fact fact facts id last rest follows = by fact.kind follows
+-- lines in order can be followed
+module _ (version : Version) (ids : List (List ℕ)) (sections : List Section) (current : Section) (opens : List ℕ) (nodes : ℕ) (last : DraftState) (rest : List (ℕ × CertLine)) where
+  abbrev Leads : List Fact → List (ℕ × CertLine) → Type 0
+  Leads facts lines = Follows (draft_of stage.Facts version facts ids sections current opens nodes) lines last
+
+  follow_steps : (line : ℕ) (name : List ℕ) (limit : _) (weights : _) (facts : List Fact) (done steps : List Step)
+      → Leads (facts ++ record { line = line; name = name; kind = Bound limit weights (done ++ steps) } ∷ []) rest
+      → Leads (facts ++ record { line = line; name = name; kind = Bound limit weights done } ∷ []) (map step_line steps ++ rest)
+  follow_steps line name limit weights facts done [] follows =
+      subst (λ w. Leads (facts ++ record { line = line; name = name; kind = Bound limit weights w } ∷ []) rest) (append-nil done) follows
+  follow_steps line name limit weights facts done (step ∷ steps) follows =
+      let fact : Fact = record { line = line; name = name; kind = Bound limit weights done } in
+      let again = follow_steps line name limit weights facts (done ++ step ∷ []) steps
+      (subst (λ w. Leads (facts ++ record { line = line; name = name; kind = Bound limit weights w } ∷ []) rest) (sym (append_assoc done (step ∷ []) steps)) follows) in (
+        _,
+        refl,
+        ap takes_steps (last_of_grown facts fact),
+        subst (λ fs. Leads fs (map step_line steps ++ rest)) (sym (with_step_of_grown facts fact step)) again,
+      )
+
+follow_fact : (version : Version) (ids : List (List ℕ)) (sections : List Section) (current : Section) (opens : List ℕ) (nodes : ℕ) (last : DraftState)
+    (fact : Fact) (facts : List Fact) (rest : List (ℕ × CertLine))
+    → Follows (draft_of stage.Facts version (facts ++ fact ∷ []) ids sections current opens nodes) rest last
+    → Follows (draft_of stage.Facts version facts ids sections current opens nodes) (fact_lines fact ++ rest) last
+follow_fact version ids sections current opens nodes last fact facts rest follows = by fact.kind follows
   where
-    by : (kind : FactKind) → Follows (at stage.Facts id (facts ++ record { line = fact.line; name = fact.name; kind = kind } ∷ []) [] []) rest last
-        → Follows (at stage.Facts id facts [] []) (said_by_fact (record { line = fact.line; name = fact.name; kind = kind }) ++ rest) last
+    by : (kind : FactKind) → Follows (draft_of stage.Facts version (facts ++ record { line = fact.line; name = fact.name; kind = kind } ∷ []) ids sections current opens nodes) rest last
+        → Follows (draft_of stage.Facts version facts ids sections current opens nodes) (fact_lines (record { line = fact.line; name = fact.name; kind = kind }) ++ rest) last
     by (Flow weights) follows = (_, refl, refl, follows)
     by (Trap places) follows = (_, refl, refl, follows)
-    by (Bound limit weights steps) follows = (_, refl, refl, follow_steps fact.line fact.name limit weights facts id last rest [] steps follows)
+    by (Bound limit weights steps) follows =
+        (_, refl, refl, follow_steps version ids sections current opens nodes last rest fact.line fact.name limit weights facts [] steps follows)
 
-follow_facts : (more facts : List Fact) (id : List ℕ) (last : DraftState) (rest : List (ℕ × CertLine))
-    → Follows (at stage.Facts id (facts ++ more) [] []) rest last → Follows (at stage.Facts id facts [] []) (flat_map said_by_fact more ++ rest) last
-follow_facts [] facts id last rest follows = subst (λ fs. Follows (at stage.Facts id fs [] []) rest last) (append-nil facts) follows
-follow_facts (fact ∷ more) facts id last rest follows =
-    subst (λ w. Follows (at stage.Facts id facts [] []) w last) (sym (append_assoc (said_by_fact fact) (flat_map said_by_fact more) rest))
-    (follow_fact fact facts id last (flat_map said_by_fact more ++ rest)
-    (follow_facts more (facts ++ fact ∷ []) id last rest
-    (subst (λ fs. Follows (at stage.Facts id fs [] []) rest last) (sym (append_assoc facts (fact ∷ []) more)) follows)))
+follow_facts : (version : Version) (ids : List (List ℕ)) (sections : List Section) (current : Section) (opens : List ℕ) (nodes : ℕ) (last : DraftState)
+    (more facts : List Fact) (rest : List (ℕ × CertLine))
+    → Follows (draft_of stage.Facts version (facts ++ more) ids sections current opens nodes) rest last
+    → Follows (draft_of stage.Facts version facts ids sections current opens nodes) (flat_map fact_lines more ++ rest) last
+follow_facts version ids sections current opens nodes last [] facts rest follows =
+    subst (λ fs. Follows (draft_of stage.Facts version fs ids sections current opens nodes) rest last) (append-nil facts) follows
+follow_facts version ids sections current opens nodes last (fact ∷ more) facts rest follows =
+    subst (λ w. Follows (draft_of stage.Facts version facts ids sections current opens nodes) w last) (sym (append_assoc (fact_lines fact) (flat_map fact_lines more) rest))
+    (follow_fact version ids sections current opens nodes last fact facts (flat_map fact_lines more ++ rest)
+    (follow_facts version ids sections current opens nodes last more (facts ++ fact ∷ []) rest
+    (subst (λ fs. Follows (draft_of stage.Facts version fs ids sections current opens nodes) rest last) (sym (append_assoc facts (fact ∷ []) more)) follows)))
 
-follow_climb : (most : ℕ) (nodes tree : List Node) (opens : List ℕ) (id : List ℕ) (facts : List Fact) (last : DraftState) (rest : List (ℕ × CertLine))
-    → Climbs most opens nodes [] → Follows (at stage.End id facts (tree ++ nodes) []) rest last
-    → Follows (at (stage_after opens) id facts tree opens) (map said_by_node nodes ++ rest) last
-follow_climb most [] tree opens id facts last rest climbs follows =
-    subst (λ w. Follows (at (stage_after w) id facts tree w) rest last) climbs (subst (λ w. Follows (at stage.End id facts w []) rest last) (append-nil tree) follows)
-follow_climb most (node ∷ nodes) tree [] id facts last rest climbs follows = absurd climbs
-follow_climb most (node ∷ nodes) tree (count ∷ counts) id facts last rest climbs follows = (
-  say.Node node.form,
-  refl,
-  refl,
-  follow_climb most nodes (tree ++ node ∷ []) _ id facts last rest climbs.1 (subst (λ w. Follows (at stage.End id facts w []) rest last) (sym (append_assoc tree (node ∷ []) nodes)) follows),
-)
+module _ (version : Version) (facts : List Fact) (ids : List (List ℕ)) (sections : List Section) (line : ℕ) (id : List ℕ) (last : DraftState) (rest : List (ℕ × CertLine)) where
+  -- behind some nodes of a tree
+  abbrev within : List Node → List ℕ → ℕ → DraftState
+  within tree opens nodes = settled_by opens (draft_of stage.Tree version facts ids sections (section_of line id tree) opens nodes)
 
-follow_tree : (most : ℕ) (tree : List Node) (id : List ℕ) (facts : List Fact) (last : DraftState) (rest : List (ℕ × CertLine))
-    → IsTree most tree → Grown most tree [] → Follows (at stage.End id facts tree []) rest last → Follows (at stage.Tree id facts [] []) (map said_by_node tree ++ rest) last
-follow_tree zero [] id facts last rest is grown follows = absurd is
-follow_tree (suc most) [] id facts last rest is grown follows = absurd (let never : (x : Node) (xs : List Node) → [] ≡ x ∷ xs → ⊥ = λ x xs e. cc in never _ _ is.2)
-follow_tree most (root ∷ nodes) id facts last rest is grown follows = (
-  say.Node root.form,
-  refl,
-  refl,
-  follow_climb most nodes (root ∷ []) _ id facts last rest grown.1 follows,
-)
+  follow_climb : (most : ℕ) (more tree : List Node) (opens : List ℕ) (nodes : ℕ)
+      → Climbs most opens more [] → Follows (within (tree ++ more) [] (nodes + length more)) rest last
+      → Follows (within tree opens nodes) (map node_line more ++ rest) last
+  follow_climb most [] tree opens nodes climbs follows =
+      let none : nodes + 0 ≡ nodes = omega arith in
+      subst (λ w. Follows (within tree w nodes) rest last) climbs
+      (subst (λ n. Follows (within tree [] n) rest last) none (subst (λ w. Follows (within w [] (nodes + 0)) rest last) (append-nil tree) follows))
+  follow_climb most (node ∷ more) tree [] nodes climbs follows = absurd climbs
+  follow_climb most (node ∷ more) tree (count ∷ counts) nodes climbs follows =
+      let longer : nodes + suc (length more) ≡ (nodes + 1) + length more = omega arith in (
+        say.Node node.form,
+        refl,
+        refl,
+        follow_climb most more (tree ++ node ∷ []) _ (nodes + 1) climbs.1
+            (subst (λ n. Follows (within ((tree ++ node ∷ []) ++ more) [] n) rest last) longer
+            (subst (λ w. Follows (within w [] (nodes + suc (length more))) rest last) (sym (append_assoc tree (node ∷ []) more)) follows)),
+      )
+
+  follow_tree : (most : ℕ) (tree : List Node) (nodes : ℕ) → IsTree most tree → Grown most tree []
+      → Follows (within tree [] (nodes + length tree)) rest last
+      → Follows (draft_of stage.Tree version facts ids sections (section_of line id []) [] nodes) (map node_line tree ++ rest) last
+  follow_tree zero [] nodes is grown follows = absurd is
+  follow_tree (suc most) [] nodes is grown follows = absurd (let never : (x : Node) (xs : List Node) → [] ≡ x ∷ xs → ⊥ = λ x xs e. cc in never _ _ is.2)
+  follow_tree most (root ∷ more) nodes is grown follows =
+      let longer : nodes + suc (length more) ≡ (nodes + 1) + length more = omega arith in (
+        say.Node root.form,
+        refl,
+        refl,
+        follow_climb most more (root ∷ []) _ (nodes + 1) grown.1 (subst (λ n. Follows (within (root ∷ more) [] n) rest last) longer follows),
+      )
+
+abbrev pub trees_of : List Section → List Node
+trees_of sections = flat_map (λ section. section.tree) sections
+
+-- facts or whole trees of version 2, behind which properties may come
+abbrev between : Stage → List Fact → List (List ℕ) → List Section → ℕ → DraftState
+between at facts ids sections nodes = draft_of at Two facts ids sections no_section [] nodes
+
+record MayClose (at : Stage) (facts : List Fact) : Type 0 where
+  property : (id : List ℕ) → may_stand_at at Two facts (say.Property id) ≡ true
+  end : may_stand_at at Two facts say.End ≡ true
+
+follow_sections : (more : List Section) (at : Stage) (facts : List Fact) (ids : List (List ℕ)) (sections : List Section) (nodes : ℕ) (last : DraftState)
+    → MayClose at facts → HasTrees more
+    → last ≡ between stage.Nothing facts (ids ++ ids_of more) (sections ++ more) (nodes + length (trees_of more))
+    → Follows (between at facts ids sections nodes) (flat_map section_lines more ++ end_line ∷ []) last
+follow_sections [] at facts ids sections nodes last may trees is =
+    let none : nodes + 0 ≡ nodes = omega arith in (
+      say.End,
+      refl,
+      may.end,
+      is
+          ∙ ap (λ w. between stage.Nothing facts w (sections ++ []) (nodes + 0)) (append-nil ids)
+          ∙ ap (λ w. between stage.Nothing facts ids w (nodes + 0)) (append-nil sections)
+          ∙ ap (λ n. between stage.Nothing facts ids sections n) none,
+    )
+follow_sections (section ∷ more) at facts ids sections nodes last may ((most, tree), trees) is =
+    let rest = flat_map section_lines more ++ end_line ∷ [] in
+    let all = length-append section.tree (trees_of more) in
+    let sum : nodes + length (section.tree ++ trees_of more) ≡ (nodes + length section.tree) + length (trees_of more) = omega (arith, all) in
+    subst (λ w. Follows (between at facts ids sections nodes) w last) (sym (append_assoc (section_lines section) (flat_map section_lines more) (end_line ∷ []))) (
+      say.Property section.property,
+      refl,
+      may.property section.property,
+      (
+        say.Proof,
+        refl,
+        refl,
+        follow_tree Two facts (ids ++ section.property ∷ []) sections section.line section.property last rest most section.tree nodes tree (grown_tree branches_on most section.tree tree)
+            (follow_sections more stage.Sections facts (ids ++ section.property ∷ []) (sections ++ section ∷ []) (nodes + length section.tree) last
+            (record { property = λ id. refl; end = refl }) trees
+            (is
+            ∙ ap (λ w. between stage.Nothing facts w (sections ++ section ∷ more) (nodes + length (section.tree ++ trees_of more))) (sym (append_assoc ids (section.property ∷ []) (ids_of more)))
+            ∙ ap (λ w. between stage.Nothing facts ((ids ++ section.property ∷ []) ++ ids_of more) w (nodes + length (section.tree ++ trees_of more))) (sym (append_assoc sections (section ∷ []) more))
+            ∙ ap (λ n. between stage.Nothing facts ((ids ++ section.property ∷ []) ++ ids_of more) ((sections ++ section ∷ []) ++ more) n) sum)),
+      ),
+    )
 
 abbrev pub whole : Cert → DraftState
-whole cert = at stage.Nothing cert.property cert.facts cert.tree []
+whole cert = draft_of stage.Nothing cert.version cert.facts (ids_of cert.sections) cert.sections no_section [] (length (trees_of cert.sections))
 
-pub follow_order : (lines : List (ℕ × CertLine)) (cert : Cert) (depth : ℕ) → IsInOrder lines cert → IsTree depth cert.tree → Follows nothing_read lines (whole cert)
-follow_order lines cert depth (version, property, proof, end, is) tree =
-    subst (λ w. Follows nothing_read w (whole cert)) (sym is) (
-      say.Version,
+from_nought : (n : ℕ) → n ≡ 0 + n
+from_nought n = omega arith
+
+follow_cert : (version : Version) (facts : List Fact) (sections : List Section) → HasItsSections version sections → HasTrees sections
+    → Follows nothing_read (lines_of_cert (record { version = version; facts = facts; sections = sections })) (whole (record { version = version; facts = facts; sections = sections }))
+follow_cert One facts [] its trees = absurd (let never : 0 ≡ 1 → ⊥ = λ e. cc in never its)
+follow_cert One facts (section ∷ next ∷ more) its trees = absurd (let never : (n : ℕ) → suc (suc n) ≡ 1 → ⊥ = λ n e. omega (arith, e) in never (length more) its)
+follow_cert One facts (section ∷ []) its ((most, tree), none) =
+    let last = whole (record { version = One; facts = facts; sections = section ∷ [] }) in
+    let after_tree = end_line ∷ [] in (
+      say.Certificate One,
       refl,
       refl,
       (
-        say.Property cert.property,
+        say.Property section.property,
         refl,
         refl,
-        follow_facts cert.facts [] cert.property (whole cert) _ (
-          say.Proof,
-          refl,
-          refl,
-          follow_tree depth cert.tree cert.property cert.facts (whole cert) ((end, Says say.End) ∷ []) tree (grown_tree branches_on depth cert.tree tree) (say.End, refl, refl, refl),
-        ),
+        subst (λ w. Follows (draft_of stage.Facts One [] (section.property ∷ []) [] (section_of section.line section.property []) [] 0) w last)
+            (sym (append_assoc (flat_map fact_lines facts) (tree_lines section ++ []) (end_line ∷ [])))
+            (follow_facts One (section.property ∷ []) [] (section_of section.line section.property []) [] 0 last facts [] ((tree_lines section ++ []) ++ end_line ∷ []) (
+              say.Proof,
+              refl,
+              refl,
+              subst (λ w. Follows (draft_of stage.Tree One facts (section.property ∷ []) [] (section_of section.line section.property []) [] 0) (w ++ end_line ∷ []) last)
+                  (sym (append-nil (map node_line section.tree)))
+                  (follow_tree One facts (section.property ∷ []) [] section.line section.property last (end_line ∷ []) most section.tree 0 tree (grown_tree branches_on most section.tree tree)
+                  (say.End, refl, refl, ap (λ n. draft_of stage.Nothing One facts (section.property ∷ []) (section ∷ []) no_section [] n) (ap length (append-nil section.tree) ∙ from_nought (length section.tree)))),
+            )),
       ),
     )
+follow_cert Two facts sections its trees =
+    let last = whole (record { version = Two; facts = facts; sections = sections }) in (
+      say.Certificate Two,
+      refl,
+      refl,
+      subst (λ w. Follows (draft_of stage.Facts Two [] [] [] no_section [] 0) w last) (sym (append_assoc (flat_map fact_lines facts) (flat_map section_lines sections) (end_line ∷ [])))
+          (follow_facts Two [] [] no_section [] 0 last facts [] (flat_map section_lines sections ++ end_line ∷ [])
+          (follow_sections sections stage.Facts facts [] [] 0 last (record { property = λ id. refl; end = refl }) trees
+          (ap (λ n. draft_of stage.Nothing Two facts (ids_of sections) sections no_section [] n) (from_nought (length (trees_of sections)))))),
+    )
+
+pub follow_order : (lines : List (ℕ × CertLine)) (cert : Cert) → IsInOrder lines cert → HasTrees cert.sections → Follows nothing_read lines (whole cert)
+follow_order lines cert (is, its) trees =
+    follow_kept lines nothing_read (whole cert)
+    (subst (λ w. Follows nothing_read w (whole cert)) (sym is) (follow_cert cert.version cert.facts cert.sections its trees))
 
 -- and every draft can be followed to an end
 abbrev Ends : DraftState → Type 0
 Ends draft = (rest : List (ℕ × CertLine)) × ((last : DraftState) × (Follows draft rest last × (last.stage ≡ stage.Nothing)))
 
-abbrev EndsAt : List ℕ → Type 0
-EndsAt opens = (id : List ℕ) (facts : List Fact) (tree : List Node) → Ends (at (stage_after (still_open opens)) id facts tree (still_open opens))
+ends_before : (line : ℕ × CertLine) (statement : Statement) (draft : DraftState) → line.1 ≡ Says statement → may_stand draft statement ≡ true
+    → Ends (after line.0 draft statement) → Ends draft
+ends_before line statement draft is may later = (line ∷ later.0, (later.1.0, ((statement, is, may, later.1.1.0), later.1.1.1)))
 
-abbrev closing : NodeForm
-closing = Close []
+ends_now : (draft : DraftState) → may_stand draft say.End ≡ true → Ends draft
+ends_now draft may = (end_line ∷ [], (_, ((say.End, refl, may, refl), refl)))
 
-ends_count : (counts : List ℕ) → EndsAt counts → (count : ℕ) → EndsAt (count ∷ counts)
-ends_count counts ends zero = ends
-ends_count counts ends (suc count) = λ id facts tree.
-    let node = node_at 0 closing in
-    let later : Ends (at (stage_after (still_open ((suc count - 1) ∷ counts))) id facts (tree ++ node ∷ []) (still_open ((suc count - 1) ∷ counts))) =
-    subst (λ n. Ends (at (stage_after (still_open (n ∷ counts))) id facts (tree ++ node ∷ []) (still_open (n ∷ counts)))) (sym (one_less_than branches_on count)) (ends_count counts ends count id facts (tree ++ node ∷ [])) in
-    ((0, Says (say.Node closing)) ∷ later.0, (later.1.0, ((say.Node closing, refl, refl, later.1.1.0), later.1.1.1)))
+abbrev closing : Node
+closing = node_at 0 (Close [])
 
-ends_opens : (opens : List ℕ) → EndsAt opens
-ends_opens [] = λ id facts tree. ((0, Says say.End) ∷ [], (_, ((say.End, refl, refl, refl), refl)))
-ends_opens (count ∷ counts) = ends_count counts (ends_opens counts) count
+module _ (version : Version) (facts : List Fact) (ids : List (List ℕ)) (sections : List Section) where
+  abbrev EndsAt : List ℕ → Type 0
+  EndsAt opens = (current : Section) (nodes : ℕ) → Ends (settled_by (still_open opens) (draft_of stage.Tree version facts ids sections current (still_open opens) nodes))
 
-ends_tree : (id : List ℕ) (facts : List Fact) (tree : List Node) → Ends (at stage.Tree id facts tree [])
-ends_tree id facts tree =
-    let later = ends_opens [] id facts (tree ++ node_at 0 closing ∷ []) in
-    ((0, Says (say.Node closing)) ∷ later.0, (later.1.0, ((say.Node closing, refl, refl, later.1.1.0), later.1.1.1)))
+  ends_count : (counts : List ℕ) → EndsAt counts → (count : ℕ) → EndsAt (count ∷ counts)
+  ends_count counts ends zero = ends
+  ends_count counts ends (suc count) = λ current nodes.
+      ends_before (node_line closing) (say.Node (Close [])) (draft_of stage.Tree version facts ids sections current (suc count ∷ counts) nodes) refl refl
+      (subst (λ n. Ends (settled_by (still_open (n ∷ counts)) (draft_of stage.Tree version facts ids sections (grown_section current closing) (still_open (n ∷ counts)) (nodes + 1))))
+      (sym (one_less_than branches_on count)) (ends_count counts ends count (grown_section current closing) (nodes + 1)))
 
-ends_open : (id : List ℕ) (facts : List Fact) (tree : List Node) (opens : List ℕ) → IsOpen tree opens → Ends (at stage.Tree id facts tree opens)
-ends_open id facts [] opens is = subst (λ w. Ends (at stage.Tree id facts [] w)) (sym is) (ends_tree id facts [])
-ends_open id facts (root ∷ nodes) opens (count, counts, is) =
-    subst (λ w. Ends (at stage.Tree id facts (root ∷ nodes) w)) (sym is) (ends_opens (suc count ∷ counts) id facts (root ∷ nodes))
+  ends_opens : (opens : List ℕ) → EndsAt opens
+  ends_opens [] = λ current nodes. ends_now _ refl
+  ends_opens (count ∷ counts) = ends_count counts (ends_opens counts) count
 
-ends_facts : (id : List ℕ) (facts : List Fact) (tree : List Node) → Ends (at stage.Facts id facts tree [])
-ends_facts id facts tree =
-    let later = ends_tree id facts tree in
-    ((0, Says say.Proof) ∷ later.0, (later.1.0, ((say.Proof, refl, refl, later.1.1.0), later.1.1.1)))
+  ends_root : (current : Section) (nodes : ℕ) → Ends (draft_of stage.Tree version facts ids sections current [] nodes)
+  ends_root current nodes =
+      ends_before (node_line closing) (say.Node (Close [])) (draft_of stage.Tree version facts ids sections current [] nodes) refl refl
+      (ends_opens [] (grown_section current closing) (nodes + 1))
 
-ends_property : (id : List ℕ) (facts : List Fact) (tree : List Node) → Ends (at stage.Property id facts tree [])
-ends_property id facts tree =
-    let later = ends_facts [] facts tree in
-    ((0, Says (say.Property [])) ∷ later.0, (later.1.0, ((say.Property [], refl, refl, later.1.1.0), later.1.1.1)))
+  ends_tree : (current : Section) (opens : List ℕ) (nodes : ℕ) → IsOpen current.tree opens → Ends (draft_of stage.Tree version facts ids sections current opens nodes)
+  ends_tree current opens nodes is = by current.tree is
+    where
+      by : (tree : List Node) → IsOpen tree opens → Ends (draft_of stage.Tree version facts ids sections current opens nodes)
+      by [] is = subst (λ w. Ends (draft_of stage.Tree version facts ids sections current w nodes)) (sym is) (ends_root current nodes)
+      by (root ∷ more) (count, counts, is) =
+          subst (λ w. Ends (draft_of stage.Tree version facts ids sections current w nodes)) (sym is) (ends_opens (suc count ∷ counts) current nodes)
 
-ends_at : (stage : Stage) (front : List (ℕ × CertLine)) (id : List ℕ) (facts : List Fact) (tree : List Node) (opens : List ℕ)
-    → PastAt stage front id facts tree opens → Ends (at stage id facts tree opens)
-ends_at stage.Version front id facts tree opens past =
-    subst (λ w. Ends (at stage.Version id facts tree w)) (sym past.3)
-    (let later = ends_property id facts tree in
-    ((0, Says say.Version) ∷ later.0, (later.1.0, ((say.Version, refl, refl, later.1.1.0), later.1.1.1))))
-ends_at stage.Property front id facts tree opens past = subst (λ w. Ends (at stage.Property id facts tree w)) (sym past.4) (ends_property id facts tree)
-ends_at stage.Facts front id facts tree opens past = subst (λ w. Ends (at stage.Facts id facts tree w)) (sym past.4) (ends_facts id facts tree)
-ends_at stage.Tree front id facts tree opens past = ends_open id facts tree opens past.4
-ends_at stage.End front id facts tree opens past = subst (λ w. Ends (at stage.End id facts tree w)) (sym past.4) (ends_opens [] id facts tree)
-ends_at stage.Nothing front id facts tree opens past = ([], (_, (refl, refl)))
+  ends_proof : (at : Stage) (current : Section) (opens : List ℕ) (nodes : ℕ) → may_stand_at at version facts say.Proof ≡ true → opens ≡ []
+      → Ends (draft_of at version facts ids sections current opens nodes)
+  ends_proof at current opens nodes may none =
+      ends_before (0, Says say.Proof) say.Proof (draft_of at version facts ids sections current opens nodes) refl may
+      (subst (λ w. Ends (draft_of stage.Tree version facts ids sections current w nodes)) (sym none) (ends_root current nodes))
 
-pub order_past : (last : DraftState) (lines : List (ℕ × CertLine)) → last.stage ≡ stage.Nothing → Past last lines → IsInOrder lines (cert_of last) × IsSomeTree last.tree
-order_past last lines is past =
-    let there = subst (λ s. PastAt s lines last.property last.facts last.tree last.opens) is past in
-    (there.0, there.2)
+module _ (facts : List Fact) (ids : List (List ℕ)) (sections : List Section) (current : Section) (opens : List ℕ) (nodes : ℕ) where
+  ends_at : (at : Stage) (version : Version) → FitsAt at version facts sections current.tree opens → Ends (draft_of at version facts ids sections current opens nodes)
+  ends_at stage.Version version fits =
+      ends_before (version_line Two) (say.Certificate Two) (draft_of stage.Version version facts ids sections current opens nodes) refl refl (ends_now _ refl)
+  ends_at stage.Property One fits =
+      ends_before (0, Says (say.Property [])) (say.Property []) (draft_of stage.Property One facts ids sections current opens nodes) refl refl
+      (ends_proof One facts (ids ++ [] ∷ []) sections stage.Facts (section_of 0 [] []) opens nodes refl fits.2.2)
+  ends_at stage.Property Two fits = absurd (one_or_two (sym fits.0))
+  ends_at stage.Facts One fits = ends_proof One facts ids sections stage.Facts current opens nodes refl fits.2
+  ends_at stage.Facts Two fits = ends_now _ refl
+  ends_at stage.Proof version fits = ends_proof version facts ids sections stage.Proof current opens nodes refl fits.2
+  ends_at stage.Tree version fits = ends_tree version facts ids sections current opens nodes fits.1
+  ends_at stage.Sections version fits = ends_now _ refl
+  ends_at stage.Nothing version fits = ([], (_, (refl, refl)))
+
+pub order_past : (last : DraftState) (lines : List (ℕ × CertLine)) → last.stage ≡ stage.Nothing → Past last lines → IsInOrder lines (cert_of last) × HasTrees last.sections
+order_past last lines is past = (
+  (
+    past.lines ∙ ap (λ at. read_at at last.version last.facts last.sections last.current) is,
+    subst (λ at. FitsAt at last.version last.facts last.sections last.current.tree last.opens) is past.fits,
+  ),
+  past.trees,
+)
 
 -- lines stand exactly where they can be followed
 pub follow_stands : (front : List (ℕ × CertLine)) → Stands front → (middle : DraftState) × Follows nothing_read front middle
-follow_stands front (rest, cert, order, (depth, tree)) =
-    let parts = follow_front nothing_read (whole cert) front rest (follow_order (front ++ rest) cert depth order tree) in
+follow_stands front (rest, cert, order, trees) =
+    let parts = follow_front nothing_read (whole cert) front rest (follow_order (front ++ rest) cert order trees) in
     (parts.0, parts.1.0)
 
 pub stands_follow : (front : List (ℕ × CertLine)) (middle : DraftState) → Follows nothing_read front middle → Stands front
 stands_follow front middle follows =
     let past = past_lines nothing_read middle [] front past_nothing follows in
-    let ends = ends_at middle.stage front middle.property middle.facts middle.tree middle.opens past in
+    let ends = ends_at middle.facts middle.ids middle.sections middle.current middle.opens middle.nodes middle.stage middle.version past.fits in
     let order = order_past ends.1.0 (front ++ ends.0) ends.1.1.1 (past_lines middle ends.1.0 front ends.0 past ends.1.1.0) in
     (ends.0, cert_of ends.1.0, order.0, order.1)

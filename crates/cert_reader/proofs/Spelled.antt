@@ -1,25 +1,25 @@
 -- What is read is spelled, and what is spelled is read.
-use Rattle.std.proofs.Common.{◌≡◌, ℕ, zero, suc, ◌+◌, true, false, List, [], ◌∷◌, ◌++◌, Result, Ok, Err, refl, sym, ap, subst, ◌∙◌, arith}
-use Rattle.std.specs.Prelude.{if◌then◌else◌}
+use Rattle.std.proofs.Common.{◌≡◌, ℕ, zero, suc, ◌+◌, ◌≤◌, true, false, List, [], ◌∷◌, ◌++◌, Result, Ok, Err, refl, sym, ap, subst, ◌∙◌, arith}
+use Rattle.std.specs.Prelude.{◌^◌, if◌then◌else◌}
 use Rattle.std.specs.List.{AllByRecursion, IsDistinct}
+use Rattle.std.specs.Str.{bytes_eq}
 use Rattle.cert_lines.specs.Statements.{line_of}
 use Rattle.cert_lines.specs.Sums.{are_past}
 use Rattle.line_words.specs.Words.{lines_of}
 use Rattle.cert_lines.specs.declared.certificates.Cert.{Cert}
-use Rattle.cert_lines.specs.declared.certificates.Node.{Node}
+use Rattle.cert_lines.specs.declared.certificates.Section.{Section}
 use Rattle.cert_lines.specs.Statements.{CertLine}
 use Rattle.line_words.specs.declared.lines.Line.TheVariants.{Passed, Faulty, Says}
 use Rattle.cert_lines.specs.declared.statements.Statement.{Statement}
-use Rattle.cert_reader.specs.Grammar.{IsSomeTree, IsTree, Spells, amounts_on, spoken, spoken_from, unless_passed}
-use Rattle.cert_reader.specs.Reading.{DraftState, branches_on, after, amounts_of, cert_of, certificate_of, finished_at, going_on, is_past_limits, is_repeated, may_stand, nothing_read, read_lines, take_said, take_statement}
+use Rattle.cert_reader.specs.Grammar.{HasTrees, Spells, amounts_on, spoken, spoken_from, unless_passed}
+use Rattle.cert_reader.specs.Reading.{DraftState, after, amounts_of, cert_of, certificate_of, finished_at, going_on, is_past_limits, is_repeated, may_stand, nothing_read, read_lines, take_said, take_statement}
 use Rattle.cert_reader.specs.declared.faults.CertFault.{CertFault}
 use Rattle.cert_reader.specs.declared.faults.CertFault.TheVariants as fault
 use Rattle.cert_reader.specs.declared.stages.Stage.{Stage}
 use Rattle.cert_reader.specs.declared.stages.Stage.TheVariants as stage
-use Rattle.cert_reader.proofs.Limits.{Limited, limited_after, limited_back, limited_before}
-use Rattle.cert_reader.proofs.Orders.{Follows, Past, PastAt, follow_order, order_past, past_after, past_lines, past_nothing, whole}
-use Rattle.prefix_trees.proofs.Climbs.{grown_tree, tree_grown}
-use Rattle.cert_reader.proofs.Trees.{Grown}
+use Rattle.cert_reader.proofs.Limits.{IsLow, Limited, limited_after, limited_back, limited_before}
+use Rattle.cert_reader.proofs.Orders.{Follows, follow_once, follow_order, order_past, past_lines, whole}
+use Rattle.cert_reader.proofs.Read.{Past, past_after, past_nothing}
 use Rattle.cert_reader.proofs.Unnumbered.{IsTaken, taken}
 
 abbrev IsSmall : ℕ × CertLine → Type 0
@@ -27,7 +27,7 @@ IsSmall line = are_past (amounts_on line.1) ≡ false
 
 pub nothing_limited : Limited nothing_read
 unfolding IsDistinct
-nothing_limited = record { names = tt; steps = tt; nodes = omega arith; grown = refl }
+nothing_limited = record { names = tt; steps = tt; ids = tt; nodes = omega arith; trees = tt; grown = tt }
 
 -- a statement that passes the tests is taken
 pub passes : (number : ℕ) (draft : DraftState) (statement : Statement) → may_stand draft statement ≡ true → is_repeated draft statement ≡ false
@@ -48,12 +48,8 @@ pub record AreRead (draft : DraftState) (lines : List (ℕ × CertLine)) (cert :
   pub small : AllByRecursion IsSmall lines
 
 finished_ok : (at : Stage) (number : ℕ) (draft : DraftState) (cert : Cert) → draft.stage ≡ at → finished_at at number draft ≡ Ok cert → (draft.stage ≡ stage.Nothing) × (cert_of draft ≡ cert)
-finished_ok stage.Version number draft cert is e = absurd (cc)
-finished_ok stage.Property number draft cert is e = absurd (cc)
-finished_ok stage.Facts number draft cert is e = absurd (cc)
-finished_ok stage.Tree number draft cert is e = absurd (cc)
-finished_ok stage.End number draft cert is e = absurd (cc)
 finished_ok stage.Nothing number draft cert is e = (is, cc)
+finished_ok at number draft cert is e = absurd (cc)
 
 read_more : (number : ℕ) (draft : DraftState) (front lines : List (ℕ × CertLine)) (cert : Cert) (statement : Statement) → Past draft front → Limited draft
     → IsTaken number draft statement (after number draft statement) → AreRead (after number draft statement) lines cert → AreRead draft ((number, Says statement) ∷ lines) cert
@@ -88,7 +84,7 @@ read_ok (line ∷ lines) number draft front cert past limited e = by (line_of li
             let again : IsTaken number draft statement (after number draft statement) = record { stands = t.stands; fresh = t.fresh; small = t.small; within = t.within; is = refl } in
             read_more number draft front (spoken_from (number + 1) lines) cert statement past limited again
             (later (after number draft statement) (front ++ (number, Says statement) ∷ []) cert (past_after number draft front statement past t.stands)
-            (limited_after number draft front statement past t.stands t.fresh t.within limited)
+            (limited_after number draft front past statement t.stands t.fresh t.within limited)
             (subst (λ d. read_lines (number + 1) d lines ≡ Ok cert) (sym t.is) e))
 
 read_is : (lines : List (List ℕ)) (number : ℕ) (draft last : DraftState) (front : List (ℕ × CertLine)) → Past draft front → Follows draft (spoken_from number lines) last
@@ -106,20 +102,16 @@ read_is (line ∷ lines) number draft last front past follows over limited small
     by (Says spoken) (statement, says, stands, follows) (first, small) later =
         let same : statement ≡ spoken = cc in
         let now = past_after number draft front statement past stands in
-        let before = limited_before number draft front statement past stands (limited_back (spoken_from (number + 1) lines) (after number draft statement) last _ now follows limited) in
+        let before = limited_before number draft front past statement stands (limited_back (spoken_from (number + 1) lines) (after number draft statement) last _ now follows limited) in
         ap (λ s. going_on (take_statement number draft s) (λ next. read_lines (number + 1) next lines)) (sym same)
         ∙ ap (λ r. going_on r (λ next. read_lines (number + 1) next lines))
         (passes number draft statement stands before.fresh (subst (λ s. are_past (amounts_of s) ≡ false) (sym same) first) before.within)
         ∙ later (after number draft statement) last (front ++ (number, Says statement) ∷ []) now follows over limited small
 
--- the tree of all nodes is one up to the depth
-tree_of : (tree : List Node) (opens : List ℕ) → Grown 256 tree opens → opens ≡ [] → IsSomeTree tree → IsTree 256 tree
-tree_of [] opens grown none (zero, is) = absurd is
-tree_of [] opens grown none (suc depth, is) = absurd (let never : (x : Node) (xs : List Node) → [] ≡ x ∷ xs → ⊥ = λ x xs e. cc in never _ _ is.2)
-tree_of (root ∷ nodes) opens grown none some = tree_grown branches_on 256 root nodes (subst (λ w. Grown 256 (root ∷ nodes) w) none grown)
-
-closed : (lines : List (ℕ × CertLine)) (last : DraftState) → last.stage ≡ stage.Nothing → Past last lines → last.opens ≡ []
-closed lines last over past = (subst (λ s. PastAt s lines last.property last.facts last.tree last.opens) over past).1
+-- trees up to a depth are trees
+pub all_trees : (sections : List Section) → AllByRecursion IsLow sections → HasTrees sections
+all_trees [] low = tt
+all_trees (section ∷ sections) (first, low) = ((256, first), all_trees sections low)
 
 pub spells_read : (bytes : List ℕ) (cert : Cert) → certificate_of bytes ≡ Ok cert → Spells bytes cert
 spells_read bytes cert e =
@@ -127,17 +119,20 @@ spells_read bytes cert e =
     let past = past_lines nothing_read read.last [] (spoken bytes) past_nothing read.follows in
     let order = order_past read.last (spoken bytes) read.over past in
     let limited = read.limited in
+    let same : read.last ≡ whole (cert_of read.last) =
+    follow_once nothing_read read.last (whole (cert_of read.last)) (spoken bytes) read.follows (follow_order (spoken bytes) (cert_of read.last) order.0 order.1) in
     subst (Spells bytes) read.is (record {
       order = order.0;
       names = limited.names;
       steps = limited.steps;
+      properties = subst (IsDistinct bytes_eq) (ap (λ d. d.ids) same) limited.ids;
       sums = read.small;
-      nodes = limited.nodes;
-      tree = tree_of read.last.tree read.last.opens limited.grown (closed (spoken bytes) read.last read.over past) order.1;
+      nodes = subst (λ n. n ≤ 2 ^ 20) (ap (λ d. d.nodes) same) limited.nodes;
+      trees = limited.trees;
     })
 
 pub reads_spelled : (bytes : List ℕ) (cert : Cert) → Spells bytes cert → certificate_of bytes ≡ Ok cert
 reads_spelled bytes cert is =
-    read_is (lines_of bytes) 1 nothing_read (whole cert) [] past_nothing (follow_order (spoken bytes) cert 256 is.order is.tree) refl
-    (record { names = is.names; steps = is.steps; nodes = is.nodes; grown = grown_tree branches_on 256 cert.tree is.tree })
+    read_is (lines_of bytes) 1 nothing_read (whole cert) [] past_nothing (follow_order (spoken bytes) cert is.order (all_trees cert.sections is.trees)) refl
+    (record { names = is.names; steps = is.steps; ids = is.properties; nodes = is.nodes; trees = is.trees; grown = tt })
     is.sums

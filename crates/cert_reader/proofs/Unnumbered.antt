@@ -1,33 +1,38 @@
 -- Drafts that are the same but for the numbers of their lines go on in the same way.
-use Rattle.std.proofs.Common.{◌≡◌, ℕ, Bool, true, false, ◌||◌, List, [], ◌∷◌, ◌++◌, length, map, Option, None, Some, Ok, Err, refl, sym, ap, ◌∙◌}
+use Rattle.std.proofs.Common.{◌≡◌, ℕ, ◌+◌, Bool, true, false, ◌||◌, List, [], ◌∷◌, ◌++◌, length, map, Option, None, Some, Ok, Err, refl, sym, ap, subst, ◌∙◌}
 use Rattle.std.specs.Prelude.{◌^◌, nat_le, if◌then◌else◌}
 use Rattle.std.specs.List.{list_any}
 use Rattle.std.specs.Option.{option_map}
 use Rattle.std.specs.Str.{bytes_eq}
-use Rattle.std.proofs.lemmas.List.{length-map, map-append}
+use Rattle.std.proofs.lemmas.List.{map-append}
 use Rattle.cert_lines.specs.Sums.{are_past}
-use Rattle.cert_lines.specs.Texts.{steps_of}
+use Rattle.cert_lines.specs.Order.{origin_of, steps_of}
 use Rattle.cert_lines.specs.declared.certificates.Fact.{Fact}
 use Rattle.cert_lines.specs.declared.certificates.FactKind.{FactKind}
 use Rattle.cert_lines.specs.declared.certificates.FactKind.TheVariants.{Flow, Trap, Bound}
+use Rattle.cert_lines.specs.declared.certificates.Section.{Section}
 use Rattle.cert_lines.specs.declared.certificates.Step.{Step}
+use Rattle.cert_lines.specs.declared.certificates.Version.{Version}
 use Rattle.cert_lines.specs.declared.statements.Claim.{Claim}
 use Rattle.cert_lines.specs.declared.statements.Claim.TheVariants as claim
 use Rattle.cert_lines.specs.declared.statements.Statement.{Statement}
 use Rattle.cert_lines.specs.declared.statements.Statement.TheVariants as say
 use Rattle.prefix_trees.specs.Trees.{opens_after}
-use Rattle.cert_reader.specs.Reading.{DraftState, after, amounts_of, branches_of, fact_at, grown, is_bound, is_past_limits, is_repeated, kind_of, last_fact, may_follow, may_stand, may_stand_at, names_of, node_at, origin_of, origins_of, same_origin, stage_after, step_at, take_statement, takes_steps, with_step}
-use Rattle.cert_reader.specs.Rewriting.{unnumbered_fact, unnumbered_kind, unnumbered_node, unnumbered_step}
+use Rattle.cert_reader.specs.Reading.{DraftState, after, at_stage, amounts_of, branches_of, fact_at, grown, is_bound, is_past_limits, is_repeated, kind_of, last_fact, may_stand, may_stand_at, names_of, no_section, node_at, origins_of, same_origin, settled_by, stage_after, stage_behind, step_at, take_statement, takes_steps, with_facts, with_node, with_step}
+use Rattle.cert_reader.specs.Rewriting.{unnumbered_fact, unnumbered_kind, unnumbered_node, unnumbered_section, unnumbered_step}
 use Rattle.cert_reader.specs.declared.faults.CertFault.TheVariants as fault
 use Rattle.cert_reader.specs.declared.stages.Stage.{Stage}
 use Rattle.cert_reader.specs.declared.stages.Stage.TheVariants as stage
 
 pub record IsSame (one other : DraftState) : Type 0 where
   pub stage : one.stage ≡ other.stage
-  pub property : one.property ≡ other.property
+  pub version : one.version ≡ other.version
   pub facts : map unnumbered_fact one.facts ≡ map unnumbered_fact other.facts
-  pub tree : map unnumbered_node one.tree ≡ map unnumbered_node other.tree
+  pub ids : one.ids ≡ other.ids
+  pub sections : map unnumbered_section one.sections ≡ map unnumbered_section other.sections
+  pub current : unnumbered_section one.current ≡ unnumbered_section other.current
   pub opens : one.opens ≡ other.opens
+  pub nodes : one.nodes ≡ other.nodes
 
 -- what a statement is tested against doesn't depend on the numbers
 names_same : (facts : List Fact) → names_of (map unnumbered_fact facts) ≡ names_of facts
@@ -74,48 +79,27 @@ module _ (one other : DraftState) (same : IsSame one other) where
   same_origins : origins_of (last_fact one.facts) ≡ origins_of (last_fact other.facts)
   same_origins = sym (origins_same (last_fact one.facts)) ∙ ap origins_of same_last ∙ origins_same (last_fact other.facts)
 
-  same_nodes : length one.tree ≡ length other.tree
-  same_nodes = sym (length-map one.tree unnumbered_node) ∙ ap length same.tree ∙ length-map other.tree unnumbered_node
-
-  same_follow : (statement : Statement) → may_follow one.facts statement ≡ may_follow other.facts statement
-  same_follow say.Version = refl
-  same_follow (say.Property id) = refl
-  same_follow (say.Fact name said) = refl
-  same_follow (say.Step step) = same_takes
-  same_follow say.Proof = refl
-  same_follow (say.Node form) = refl
-  same_follow say.End = refl
-
-  same_at : (at : Stage) (statement : Statement) → may_stand_at at one.facts statement ≡ may_stand_at at other.facts statement
-  same_at stage.Version statement = refl
-  same_at stage.Property statement = refl
-  same_at stage.Facts statement = same_follow statement
-  same_at stage.Tree statement = refl
-  same_at stage.End statement = refl
-  same_at stage.Nothing statement = refl
+  same_at : (at : Stage) (version : Version) (statement : Statement) → may_stand_at at version one.facts statement ≡ may_stand_at at version other.facts statement
+  same_at stage.Facts version (say.Step step) = same_takes
+  same_at at version statement = refl
 
   same_stand : (statement : Statement) → may_stand one statement ≡ may_stand other statement
-  same_stand statement = ap (λ at. may_stand_at at one.facts statement) same.stage ∙ same_at other.stage statement
+  same_stand statement =
+      ap (λ at. may_stand_at at one.version one.facts statement) same.stage
+      ∙ ap (λ version. may_stand_at other.stage version one.facts statement) same.version
+      ∙ same_at other.stage other.version statement
 
   same_repeated : (statement : Statement) → is_repeated one statement ≡ is_repeated other statement
-  same_repeated say.Version = refl
-  same_repeated (say.Property id) = refl
+  same_repeated (say.Property id) = ap (list_any (bytes_eq id)) same.ids
   same_repeated (say.Fact name said) = ap (list_any (bytes_eq name)) same_names
   same_repeated (say.Step step) = ap (list_any (same_origin step.origin)) same_origins
-  same_repeated say.Proof = refl
-  same_repeated (say.Node form) = refl
-  same_repeated say.End = refl
+  same_repeated statement = refl
 
   same_limits : (statement : Statement) → is_past_limits one statement ≡ is_past_limits other statement
-  same_limits say.Version = refl
-  same_limits (say.Property id) = refl
-  same_limits (say.Fact name said) = refl
-  same_limits (say.Step step) = refl
-  same_limits say.Proof = refl
   same_limits (say.Node form) =
-      ap (λ n. nat_le (2 ^ 20) n || nat_le 256 (length one.opens)) same_nodes
-      ∙ ap (λ opens. nat_le (2 ^ 20) (length other.tree) || nat_le 256 (length opens)) same.opens
-  same_limits say.End = refl
+      ap (λ n. nat_le (2 ^ 20) n || nat_le 256 (length one.opens)) same.nodes
+      ∙ ap (λ opens. nat_le (2 ^ 20) other.nodes || nat_le 256 (length opens)) same.opens
+  same_limits statement = refl
 
 -- and neither does the draft after it, numbers aside
 grown_same : (kind : FactKind) (step : Step) → unnumbered_kind (grown kind step) ≡ grown (unnumbered_kind kind) (unnumbered_step step)
@@ -142,38 +126,93 @@ more_same number facts name said =
     map-append unnumbered_fact facts (fact_at number name said ∷ [])
     ∙ ap (λ fact. map unnumbered_fact facts ++ fact ∷ []) (fact_begun number name said)
 
-pub same_after : (number again : ℕ) (one other : DraftState) (statement : Statement) → IsSame one other → IsSame (after number one statement) (after again other statement)
-same_after number again one other say.Version same = record { stage = refl; property = same.property; facts = same.facts; tree = same.tree; opens = same.opens }
-same_after number again one other (say.Property id) same = record { stage = refl; property = refl; facts = same.facts; tree = same.tree; opens = same.opens }
-same_after number again one other (say.Fact name said) same = record {
-  stage = same.stage;
-  property = same.property;
-  facts = more_same number one.facts name said
-      ∙ ap (λ facts. facts ++ fact_at 0 name said ∷ []) same.facts
-      ∙ sym (more_same again other.facts name said);
-  tree = same.tree;
-  opens = same.opens;
-}
-same_after number again one other (say.Step step) same = record {
-  stage = same.stage;
-  property = same.property;
-  facts = with_step_same one.facts (step_at number step)
-      ∙ ap (λ facts. with_step facts (step_at 0 step)) same.facts
-      ∙ sym (with_step_same other.facts (step_at again step));
-  tree = same.tree;
-  opens = same.opens;
-}
-same_after number again one other say.Proof same = record { stage = refl; property = same.property; facts = same.facts; tree = same.tree; opens = same.opens }
-same_after number again one other (say.Node form) same = record {
-  stage = ap (λ opens. stage_after (opens_after (branches_of form) opens)) same.opens;
-  property = same.property;
+same_settled : (w : List ℕ) (one other : DraftState) → IsSame one other → IsSame (settled_by w one) (settled_by w other)
+same_settled [] one other same = record {
+  stage = refl;
+  version = same.version;
   facts = same.facts;
-  tree = map-append unnumbered_node one.tree (node_at number form ∷ [])
-      ∙ ap (λ tree. tree ++ node_at 0 form ∷ []) same.tree
-      ∙ sym (map-append unnumbered_node other.tree (node_at again form ∷ []));
-  opens = ap (opens_after (branches_of form)) same.opens;
+  ids = same.ids;
+  sections = map-append unnumbered_section one.sections (one.current ∷ [])
+      ∙ ap (λ sections. sections ++ unnumbered_section one.current ∷ []) same.sections
+      ∙ ap (λ current. map unnumbered_section other.sections ++ current ∷ []) same.current
+      ∙ sym (map-append unnumbered_section other.sections (other.current ∷ []));
+  current = refl;
+  opens = same.opens;
+  nodes = same.nodes;
 }
-same_after number again one other say.End same = record { stage = refl; property = same.property; facts = same.facts; tree = same.tree; opens = same.opens }
+same_settled (count ∷ counts) one other same = same
+
+same_facts : (one other : DraftState) (facts again : List Fact) → IsSame one other → map unnumbered_fact facts ≡ map unnumbered_fact again → IsSame (with_facts one facts) (with_facts other again)
+same_facts one other facts again same is = record {
+  stage = same.stage;
+  version = same.version;
+  facts = is;
+  ids = same.ids;
+  sections = same.sections;
+  current = same.current;
+  opens = same.opens;
+  nodes = same.nodes;
+}
+
+same_stage : (one other : DraftState) (next : Stage) → IsSame one other → IsSame (at_stage one next) (at_stage other next)
+same_stage one other next same = record {
+  stage = refl;
+  version = same.version;
+  facts = same.facts;
+  ids = same.ids;
+  sections = same.sections;
+  current = same.current;
+  opens = same.opens;
+  nodes = same.nodes;
+}
+
+pub same_after : (number again : ℕ) (one other : DraftState) (statement : Statement) → IsSame one other → IsSame (after number one statement) (after again other statement)
+same_after number again one other (say.Certificate version) same = record {
+  stage = refl;
+  version = refl;
+  facts = same.facts;
+  ids = same.ids;
+  sections = same.sections;
+  current = same.current;
+  opens = same.opens;
+  nodes = same.nodes;
+}
+same_after number again one other (say.Property id) same = record {
+  stage = ap stage_behind same.version;
+  version = same.version;
+  facts = same.facts;
+  ids = ap (λ ids. ids ++ id ∷ []) same.ids;
+  sections = same.sections;
+  current = refl;
+  opens = same.opens;
+  nodes = same.nodes;
+}
+same_after number again one other (say.Fact name said) same =
+    same_facts one other (one.facts ++ fact_at number name said ∷ []) (other.facts ++ fact_at again name said ∷ []) same
+    (more_same number one.facts name said ∙ ap (λ facts. facts ++ fact_at 0 name said ∷ []) same.facts ∙ sym (more_same again other.facts name said))
+same_after number again one other (say.Step step) same =
+    same_facts one other (with_step one.facts (step_at number step)) (with_step other.facts (step_at again step)) same
+    (with_step_same one.facts (step_at number step) ∙ ap (λ facts. with_step facts (step_at 0 step)) same.facts ∙ sym (with_step_same other.facts (step_at again step)))
+same_after number again one other say.Proof same = same_stage one other stage.Tree same
+same_after number again one other (say.Node form) same =
+    let opens = opens_after (branches_of form) one.opens in
+    let opens_again = opens_after (branches_of form) other.opens in
+    let is : opens ≡ opens_again = ap (opens_after (branches_of form)) same.opens in
+    let now : IsSame (with_node one (node_at number form) opens) (with_node other (node_at again form) opens_again) = record {
+      stage = refl;
+      version = same.version;
+      facts = same.facts;
+      ids = same.ids;
+      sections = same.sections;
+      current = ap (λ nodes. record { line = 0; property = one.current.property; tree = nodes }) (map-append unnumbered_node one.current.tree (node_at number form ∷ []))
+          ∙ ap (λ section. record { line = 0; property = section.property; tree = section.tree ++ node_at 0 form ∷ [] }) same.current
+          ∙ ap (λ nodes. record { line = 0; property = other.current.property; tree = nodes }) (sym (map-append unnumbered_node other.current.tree (node_at again form ∷ [])));
+      opens = is;
+      nodes = ap (λ n. n + 1) same.nodes;
+    } in
+    subst (λ w. IsSame (settled_by opens (with_node one (node_at number form) opens)) (settled_by w (with_node other (node_at again form) opens_again))) is
+    (same_settled opens (with_node one (node_at number form) opens) (with_node other (node_at again form) opens_again) now)
+same_after number again one other say.End same = same_stage one other stage.Nothing same
 
 pub record IsTaken (number : ℕ) (draft : DraftState) (statement : Statement) (next : DraftState) : Type 0 where
   pub stands : may_stand draft statement ≡ true

@@ -1,26 +1,23 @@
 -- The grammar of certificates: which lines there are, in which order, and the first line with a fault.
-use Rattle.std.specs.Prelude.{ℕ, zero, suc, true, false, ◌+◌, ◌<◌, ◌≤◌, ◌^◌, List, [], ◌∷◌, ◌++◌, length, map, flat_map, Result, Ok, Err, ◌≡◌, ◌⊎◌}
+use Rattle.std.specs.Prelude.{ℕ, true, false, ◌+◌, ◌≤◌, ◌^◌, List, [], ◌∷◌, ◌++◌, length, map, flat_map, Result, Ok, Err, ◌≡◌, ◌⊎◌}
 use Rattle.std.specs.Bool.{⊤}
 use Rattle.std.specs.List.{AllByRecursion, IsDistinct, list_any}
 use Rattle.std.specs.Str.{bytes_eq}
 use Rattle.prefix_trees.specs.Trees as trees
 use Rattle.prefix_trees.specs.Trees.{HasAbove}
-use Rattle.cert_lines.specs.Statements.{line_of}
-use Rattle.cert_lines.specs.Sums.{are_past}
-use Rattle.cert_lines.specs.Texts.{steps_of}
 use Rattle.line_words.specs.Words.{lines_of}
-use Rattle.cert_lines.specs.declared.certificates.Cert.{Cert}
-use Rattle.cert_lines.specs.declared.certificates.Fact.{Fact}
-use Rattle.cert_lines.specs.declared.certificates.FactKind.{FactKind}
-use Rattle.cert_lines.specs.declared.certificates.FactKind.TheVariants.{Flow, Trap, Bound}
-use Rattle.cert_lines.specs.declared.certificates.Node.{Node}
-use Rattle.cert_lines.specs.declared.certificates.Step.{Step}
-use Rattle.cert_lines.specs.declared.statements.Claim.{Claim}
-use Rattle.cert_lines.specs.declared.statements.Claim.TheVariants as claim
-use Rattle.cert_lines.specs.Statements.{CertLine}
 use Rattle.line_words.specs.declared.lines.Line.TheVariants.{Passed, Faulty, Says}
+use Rattle.cert_lines.specs.Order.{lines_of_cert, node_line, origin_of, step_line, steps_of}
+use Rattle.cert_lines.specs.Statements.{CertLine, line_of}
+use Rattle.cert_lines.specs.Sums.{are_past}
+use Rattle.cert_lines.specs.declared.certificates.Cert.{Cert}
+use Rattle.cert_lines.specs.declared.certificates.Node.{Node}
+use Rattle.cert_lines.specs.declared.certificates.Section.{Section}
+use Rattle.cert_lines.specs.declared.certificates.Step.{Step}
+use Rattle.cert_lines.specs.declared.certificates.Version.{Version}
+use Rattle.cert_lines.specs.declared.certificates.Version.TheVariants.{One, Two}
 use Rattle.cert_lines.specs.declared.statements.Statement.TheVariants as say
-use Rattle.cert_reader.specs.Reading.{amounts_of, branches_on, names_of, origin_of, same_origin}
+use Rattle.cert_reader.specs.Reading.{amounts_of, branches_on, ids_of, names_of, same_origin}
 use Rattle.cert_reader.specs.declared.faults.CertFault.{CertFault}
 use Rattle.cert_reader.specs.declared.faults.CertFault.TheVariants as fault
 
@@ -37,33 +34,19 @@ spoken_from number (line ∷ lines) = unless_passed number (line_of line) ++ spo
 abbrev pub spoken : List ℕ → List (ℕ × CertLine)
 spoken bytes = spoken_from 1 (lines_of bytes)
 
--- the lines of a fact, those of its steps behind it, and the line of a node
-abbrev pub claim_of : FactKind → Claim
-claim_of (Flow weights) = claim.Flow weights
-claim_of (Trap places) = claim.Trap places
-claim_of (Bound limit weights steps) = claim.Bound limit weights
+-- the lines of a certificate in order. In which lines the version, `proof` and `end` stand is no part of it
+abbrev pub kept : ℕ × CertLine → ℕ × CertLine
+kept (number, Says (say.Certificate version)) = (0, Says (say.Certificate version))
+kept (number, Says say.Proof) = (0, Says say.Proof)
+kept (number, Says say.End) = (0, Says say.End)
+kept line = line
 
-abbrev pub said_by_step : Step → ℕ × CertLine
-said_by_step step = (
-  step.line,
-  Says (say.Step (record { origin = origin_of step; scale = step.scale; keep = step.keep; factors = step.factors })),
-)
+abbrev pub HasItsSections : Version → List Section → Type 0
+HasItsSections One sections = length sections ≡ 1
+HasItsSections Two sections = ⊤
 
-abbrev pub said_by_fact : Fact → List (ℕ × CertLine)
-said_by_fact fact = (fact.line, Says (say.Fact fact.name (claim_of fact.kind))) ∷ map said_by_step (steps_of fact.kind)
-
-abbrev pub said_by_node : Node → ℕ × CertLine
-said_by_node node = (node.line, Says (say.Node node.form))
-
--- the lines of a certificate: the version, the property, the facts, `proof`, the nodes, `end`, and nothing more
 abbrev pub IsInOrder : List (ℕ × CertLine) → Cert → Type 0
-IsInOrder lines cert =
-    (version : ℕ)
-    × (property : ℕ)
-    × (proof : ℕ)
-    × (end : ℕ)
-    × (lines ≡ (version, Says say.Version) ∷ (property, Says (say.Property cert.property)) ∷ (flat_map said_by_fact cert.facts
-    ++ (proof, Says say.Proof) ∷ (map said_by_node cert.tree ++ (end, Says say.End) ∷ [])))
+IsInOrder lines cert = (map kept lines ≡ lines_of_cert cert) × HasItsSections cert.version cert.sections
 
 -- the nodes are a tree up to this depth
 abbrev pub IsTree : ℕ → List Node → Type 0
@@ -72,33 +55,44 @@ IsTree depth nodes = trees.IsTree branches_on depth nodes
 abbrev pub IsSomeTree : List Node → Type 0
 IsSomeTree nodes = trees.IsSomeTree branches_on nodes
 
+abbrev pub HasTrees : List Section → Type 0
+HasTrees sections = AllByRecursion (λ section. IsSomeTree section.tree) sections
+
 -- the absolute values on a line
 abbrev pub amounts_on : CertLine → List (List ℕ × ℕ)
 amounts_on Passed = []
 amounts_on Faulty = []
 amounts_on (Says statement) = amounts_of statement
 
--- the bytes spell the certificate: its lines in order, names and each bound's transition instances apart, sums of absolute
--- values in range, and a tree within the limits
+-- the bytes spell the certificate: its lines in order, names, properties and each bound's transition instances apart, sums
+-- of absolute values in range, and trees within the limits, of which that on nodes is for all trees together
 pub record Spells (bytes : List ℕ) (cert : Cert) : Type 0 where
   pub order : IsInOrder (spoken bytes) cert
   pub names : IsDistinct bytes_eq (names_of cert.facts)
   pub steps : AllByRecursion (λ fact. IsDistinct same_origin (map origin_of (steps_of fact.kind))) cert.facts
+  pub properties : IsDistinct bytes_eq (ids_of cert.sections)
   pub sums : AllByRecursion (λ line. are_past (amounts_on line.1) ≡ false) (spoken bytes)
-  pub nodes : length cert.tree ≤ 2 ^ 20
-  pub tree : IsTree 256 cert.tree
+  pub nodes : length (flat_map (λ section. section.tree) cert.sections) ≤ 2 ^ 20
+  pub trees : AllByRecursion (λ section. IsTree 256 section.tree) cert.sections
 
 -- more lines can make these all lines of a certificate, whatever they repeat and however large it is
 abbrev pub Stands : List (ℕ × CertLine) → Type 0
-Stands front = (rest : List (ℕ × CertLine)) × (cert : Cert) × IsInOrder (front ++ rest) cert × IsSomeTree cert.tree
+Stands front = (rest : List (ℕ × CertLine)) × (cert : Cert) × IsInOrder (front ++ rest) cert × HasTrees cert.sections
 
--- the names of facts and the nodes on these lines
+-- the names of facts, the ids of properties and the nodes on these lines
 abbrev pub name_on : ℕ × CertLine → List (List ℕ)
 name_on (number, Says (say.Fact name said)) = name ∷ []
 name_on line = []
 
 abbrev pub names_on : List (ℕ × CertLine) → List (List ℕ)
 names_on lines = flat_map name_on lines
+
+abbrev pub id_on : ℕ × CertLine → List (List ℕ)
+id_on (number, Says (say.Property id)) = id ∷ []
+id_on line = []
+
+abbrev pub ids_on : List (ℕ × CertLine) → List (List ℕ)
+ids_on lines = flat_map id_on lines
 
 abbrev pub node_on : ℕ × CertLine → List Node
 node_on (number, Says (say.Node form)) = record { line = number; form = form } ∷ []
@@ -107,20 +101,30 @@ node_on line = []
 abbrev pub nodes_on : List (ℕ × CertLine) → List Node
 nodes_on lines = flat_map node_on lines
 
--- a fact whose name an earlier fact has, or a step whose transition instance one of the steps right before it has
+-- a property whose id an earlier property has, a fact whose name an earlier fact has, or a step whose transition instance one
+-- of the steps right before it has
 abbrev pub Repeats : List (ℕ × CertLine) → CertLine → Type 0
+Repeats before (Says (say.Property id)) = list_any (bytes_eq id) (ids_on before) ≡ true
 Repeats before (Says (say.Fact name said)) = list_any (bytes_eq name) (names_on before) ≡ true
 Repeats before (Says (say.Step step)) =
     (earlier : List (ℕ × CertLine))
     × (steps : List Step)
-    × (before ≡ earlier ++ map said_by_step steps)
+    × (before ≡ earlier ++ map step_line steps)
     × (list_any (same_origin step.origin) (map origin_of steps) ≡ true)
 Repeats before line = ⊥
 
--- the 1,048,577th node, or a node at depth 257, below 256 others, or deeper
+-- a node with so many nodes above it in its tree, of which these lines have the nodes behind the last `proof`
+abbrev pub IsBelow : ℕ → List (ℕ × CertLine) → Type 0
+IsBelow above before =
+    (earlier : List (ℕ × CertLine))
+    × (proof : ℕ)
+    × (tree : List Node)
+    × (before ≡ earlier ++ (proof, Says say.Proof) ∷ map node_line tree)
+    × HasAbove branches_on above tree
+
+-- the 1,048,577th node of all trees, or a node at depth 257 of its tree, below 256 others, or deeper
 abbrev pub IsPastLimits : List (ℕ × CertLine) → CertLine → Type 0
-IsPastLimits before (Says (say.Node form)) =
-    (2 ^ 20 ≤ length (nodes_on before)) ⊎ ((above : ℕ) × (256 ≤ above) × HasAbove branches_on above (nodes_on before))
+IsPastLimits before (Says (say.Node form)) = (2 ^ 20 ≤ length (nodes_on before)) ⊎ ((above : ℕ) × (256 ≤ above) × IsBelow above before)
 IsPastLimits before line = ⊥
 
 -- the fault of a line behind the lines before it, the first in their order
@@ -160,7 +164,7 @@ IsAtFault lines refusal =
 abbrev pub IsUnfinished : List (ℕ × CertLine) → ℕ → CertFault → Type 0
 IsUnfinished lines count refusal =
     IsFaultless lines
-    × ((cert : Cert) → IsInOrder lines cert → IsSomeTree cert.tree → ⊥)
+    × ((cert : Cert) → IsInOrder lines cert → HasTrees cert.sections → ⊥)
     × (refusal ≡ fault.Line (count + 1))
 
 -- the first fault of the bytes

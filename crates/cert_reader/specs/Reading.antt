@@ -1,10 +1,10 @@
 -- Which lines a certificate has, in which order, and the first fault.
-use Rattle.std.specs.Prelude.{ℕ, zero, suc, Bool, true, false, ◌&&◌, ◌||◌, ◌-◌, ◌+◌, ◌^◌, nat_eq, nat_le, List, [], ◌∷◌, ◌++◌, length, map, Option, None, Some, Result, Ok, Err, if◌then◌else◌, ◌≡◌}
+use Rattle.std.specs.Prelude.{ℕ, zero, suc, Bool, true, false, not, ◌&&◌, ◌||◌, ◌-◌, ◌+◌, ◌^◌, nat_eq, nat_le, List, [], ◌∷◌, ◌++◌, length, map, Option, None, Some, Result, Ok, Err, if◌then◌else◌, ◌≡◌}
 use Rattle.std.specs.Bool.{⊤}
 use Rattle.std.specs.List.{list_any}
 use Rattle.std.specs.Str.{bytes_eq}
 use Rattle.prefix_trees.specs.Trees.{opens_after}
-use Rattle.cert_lines.specs.Texts.{steps_of}
+use Rattle.cert_lines.specs.Order.{origin_of, steps_of}
 use Rattle.line_words.specs.Words.{lines_of}
 use Rattle.cert_lines.specs.Statements.{line_of}
 use Rattle.cert_lines.specs.Sums.{are_past, factor_amount, multiplier_amount, weight_amount}
@@ -12,7 +12,10 @@ use Rattle.cert_lines.specs.declared.certificates.Cert.{Cert}
 use Rattle.cert_lines.specs.declared.certificates.Fact.{Fact}
 use Rattle.cert_lines.specs.declared.certificates.FactKind.{FactKind}
 use Rattle.cert_lines.specs.declared.certificates.FactKind.TheVariants.{Flow, Trap, Bound}
+use Rattle.cert_lines.specs.declared.certificates.Section.{Section}
 use Rattle.cert_lines.specs.declared.certificates.Step.{Step}
+use Rattle.cert_lines.specs.declared.certificates.Version.{Version}
+use Rattle.cert_lines.specs.declared.certificates.Version.TheVariants.{One, Two}
 use Rattle.cert_lines.specs.declared.certificates.Node.{Node}
 use Rattle.cert_lines.specs.declared.certificates.NodeForm.{NodeForm}
 use Rattle.cert_lines.specs.declared.certificates.NodeForm.TheVariants.{Close, Clash, Split, Cases, Each}
@@ -29,17 +32,30 @@ use Rattle.cert_lines.specs.declared.statements.Statement.{Statement}
 use Rattle.cert_lines.specs.declared.statements.Statement.TheVariants as say
 use Rattle.cert_lines.specs.declared.statements.StepClaim.{StepClaim}
 
--- a certificate of which some lines have been read: what is to come next, what there is, and how many branches of each
--- open node are to come, the innermost first
+-- a certificate of which some lines have been read: what is to come next; the version and the facts; the ids of all
+-- properties; the sections whose tree is whole; the last property with its tree so far; how many branches of each open node
+-- of that tree are to come, the innermost first; and how many nodes all trees have
 pub record DraftState : Type 0 where
   pub stage : Stage
-  pub property : List ℕ
+  pub version : Version
   pub facts : List Fact
-  pub tree : List Node
+  pub ids : List (List ℕ)
+  pub sections : List Section
+  pub current : Section
   pub opens : List ℕ
+  pub nodes : ℕ
+
+abbrev pub draft_of : Stage → Version → List Fact → List (List ℕ) → List Section → Section → List ℕ → ℕ → DraftState
+draft_of at v fs is ss c os n = record { stage = at; version = v; facts = fs; ids = is; sections = ss; current = c; opens = os; nodes = n }
+
+abbrev pub section_of : ℕ → List ℕ → List Node → Section
+section_of number id nodes = record { line = number; property = id; tree = nodes }
+
+abbrev pub no_section : Section
+no_section = section_of 0 [] []
 
 abbrev pub nothing_read : DraftState
-nothing_read = record { stage = stage.Version; property = []; facts = []; tree = []; opens = [] }
+nothing_read = draft_of stage.Version One [] [] [] no_section [] 0
 
 -- the last fact, its steps, and whether steps may follow it
 abbrev pub last_fact : List Fact → Option Fact
@@ -56,9 +72,6 @@ abbrev pub takes_steps : Option Fact → Bool
 takes_steps None = false
 takes_steps (Some fact) = is_bound fact.kind
 
-abbrev pub origin_of : Step → InstanceRef
-origin_of step = record { transition = step.transition; binding = step.binding }
-
 abbrev pub origins_of : Option Fact → List InstanceRef
 origins_of None = []
 origins_of (Some fact) = map origin_of (steps_of fact.kind)
@@ -69,72 +82,47 @@ same_origin a b = bytes_eq a.transition b.transition && nat_eq a.binding b.bindi
 abbrev pub names_of : List Fact → List (List ℕ)
 names_of facts = map (λ fact. fact.name) facts
 
--- the order: the version, the property, facts, each bound with its steps, `proof`, one tree, `end`, and nothing more
-abbrev pub is_version : Statement → Bool
-is_version say.Version = true
-is_version (say.Property id) = false
-is_version (say.Fact name said) = false
-is_version (say.Step step) = false
-is_version say.Proof = false
-is_version (say.Node form) = false
-is_version say.End = false
+abbrev pub ids_of : List Section → List (List ℕ)
+ids_of sections = map (λ section. section.property) sections
 
-abbrev pub is_property : Statement → Bool
-is_property say.Version = false
-is_property (say.Property id) = true
-is_property (say.Fact name said) = false
-is_property (say.Step step) = false
-is_property say.Proof = false
-is_property (say.Node form) = false
-is_property say.End = false
+-- the order: the version; in version 1 the property, facts, `proof` and one tree; in version 2 facts, and then any number of
+-- properties, each with `proof` and a tree; `end`, and nothing more. Each bound has its steps behind it
+abbrev pub is_one : Version → Bool
+is_one One = true
+is_one Two = false
 
-abbrev pub may_follow : List Fact → Statement → Bool
-may_follow facts say.Version = false
-may_follow facts (say.Property id) = false
-may_follow facts (say.Fact name said) = true
-may_follow facts (say.Step step) = takes_steps (last_fact facts)
-may_follow facts say.Proof = true
-may_follow facts (say.Node form) = false
-may_follow facts say.End = false
+abbrev pub may_follow : Version → List Fact → Statement → Bool
+may_follow version facts (say.Fact name said) = true
+may_follow version facts (say.Step step) = takes_steps (last_fact facts)
+may_follow version facts say.Proof = is_one version
+may_follow version facts (say.Property id) = not (is_one version)
+may_follow version facts say.End = not (is_one version)
+may_follow version facts statement = false
 
-abbrev pub is_node : Statement → Bool
-is_node say.Version = false
-is_node (say.Property id) = false
-is_node (say.Fact name said) = false
-is_node (say.Step step) = false
-is_node say.Proof = false
-is_node (say.Node form) = true
-is_node say.End = false
+abbrev pub may_close : Version → Statement → Bool
+may_close version (say.Property id) = not (is_one version)
+may_close version say.End = true
+may_close version statement = false
 
-abbrev pub is_end : Statement → Bool
-is_end say.Version = false
-is_end (say.Property id) = false
-is_end (say.Fact name said) = false
-is_end (say.Step step) = false
-is_end say.Proof = false
-is_end (say.Node form) = false
-is_end say.End = true
-
-abbrev pub may_stand_at : Stage → List Fact → Statement → Bool
-may_stand_at stage.Version facts statement = is_version statement
-may_stand_at stage.Property facts statement = is_property statement
-may_stand_at stage.Facts facts statement = may_follow facts statement
-may_stand_at stage.Tree facts statement = is_node statement
-may_stand_at stage.End facts statement = is_end statement
-may_stand_at stage.Nothing facts statement = false
+abbrev pub may_stand_at : Stage → Version → List Fact → Statement → Bool
+may_stand_at stage.Version version facts (say.Certificate other) = true
+may_stand_at stage.Property version facts (say.Property id) = true
+may_stand_at stage.Facts version facts statement = may_follow version facts statement
+may_stand_at stage.Proof version facts say.Proof = true
+may_stand_at stage.Tree version facts (say.Node form) = true
+may_stand_at stage.Sections version facts statement = may_close version statement
+may_stand_at at version facts statement = false
 
 abbrev pub may_stand : DraftState → Statement → Bool
-may_stand draft statement = may_stand_at draft.stage draft.facts statement
+may_stand draft statement = may_stand_at draft.stage draft.version draft.facts statement
 
--- a fact whose name an earlier fact has, or a step at a transition instance that an earlier step of the bound has
+-- a property whose id an earlier one has, a fact whose name an earlier fact has, or a step at a transition instance that an
+-- earlier step of the bound has
 abbrev pub is_repeated : DraftState → Statement → Bool
-is_repeated draft say.Version = false
-is_repeated draft (say.Property id) = false
+is_repeated draft (say.Property id) = list_any (bytes_eq id) draft.ids
 is_repeated draft (say.Fact name said) = list_any (bytes_eq name) (names_of draft.facts)
 is_repeated draft (say.Step step) = list_any (same_origin step.origin) (origins_of (last_fact draft.facts))
-is_repeated draft say.Proof = false
-is_repeated draft (say.Node form) = false
-is_repeated draft say.End = false
+is_repeated draft statement = false
 
 -- the absolute values of a line, each with what it stands on
 abbrev pub claim_amounts : Claim → List (List ℕ × ℕ)
@@ -150,23 +138,15 @@ node_amounts (Cases choice branches) = []
 node_amounts (Each choice) = []
 
 abbrev pub amounts_of : Statement → List (List ℕ × ℕ)
-amounts_of say.Version = []
-amounts_of (say.Property id) = []
 amounts_of (say.Fact name said) = claim_amounts said
 amounts_of (say.Step step) = map factor_amount step.factors
-amounts_of say.Proof = []
 amounts_of (say.Node form) = node_amounts form
-amounts_of say.End = []
+amounts_of statement = []
 
 -- the 1,048,577th node, and a node at depth 257, below 256 open ones
 abbrev pub is_past_limits : DraftState → Statement → Bool
-is_past_limits draft say.Version = false
-is_past_limits draft (say.Property id) = false
-is_past_limits draft (say.Fact name said) = false
-is_past_limits draft (say.Step step) = false
-is_past_limits draft say.Proof = false
-is_past_limits draft (say.Node form) = nat_le (2 ^ 20) (length draft.tree) || nat_le 256 (length draft.opens)
-is_past_limits draft say.End = false
+is_past_limits draft (say.Node form) = nat_le (2 ^ 20) draft.nodes || nat_le 256 (length draft.opens)
+is_past_limits draft statement = false
 
 -- how many branches follow a node
 abbrev pub branches_of : NodeForm → ℕ
@@ -178,11 +158,6 @@ branches_of (Each choice) = 1
 
 abbrev pub branches_on : Node → ℕ
 branches_on node = branches_of node.form
-
--- what comes after a node, by the open nodes
-abbrev pub stage_after : List ℕ → Stage
-stage_after [] = stage.End
-stage_after (count ∷ counts) = stage.Tree
 
 -- the facts with one more step of the last one
 abbrev pub grown : FactKind → Step → FactKind
@@ -222,30 +197,47 @@ fact_at number name said = record { line = number; name = name; kind = kind_of s
 
 -- the draft after a statement
 abbrev pub at_stage : DraftState → Stage → DraftState
-at_stage draft next = record { stage = next; property = draft.property; facts = draft.facts; tree = draft.tree; opens = draft.opens }
+at_stage d next = draft_of next d.version d.facts d.ids d.sections d.current d.opens d.nodes
 
-abbrev pub with_property : DraftState → List ℕ → DraftState
-with_property draft id = record { stage = stage.Facts; property = id; facts = draft.facts; tree = draft.tree; opens = draft.opens }
+abbrev pub stage_after : Version → Stage
+stage_after One = stage.Property
+stage_after Two = stage.Facts
+
+abbrev pub with_version : DraftState → Version → DraftState
+with_version d version = draft_of (stage_after version) version d.facts d.ids d.sections d.current d.opens d.nodes
+
+abbrev pub stage_behind : Version → Stage
+stage_behind One = stage.Facts
+stage_behind Two = stage.Proof
+
+abbrev pub with_property : DraftState → ℕ → List ℕ → DraftState
+with_property d number id =
+    draft_of (stage_behind d.version) d.version d.facts (d.ids ++ id ∷ []) d.sections (section_of number id []) d.opens d.nodes
 
 abbrev pub with_facts : DraftState → List Fact → DraftState
-with_facts draft facts = record { stage = draft.stage; property = draft.property; facts = facts; tree = draft.tree; opens = draft.opens }
+with_facts d facts = draft_of d.stage d.version facts d.ids d.sections d.current d.opens d.nodes
+
+abbrev pub grown_section : Section → Node → Section
+grown_section section node = section_of section.line section.property (section.tree ++ node ∷ [])
 
 abbrev pub with_node : DraftState → Node → List ℕ → DraftState
-with_node draft node opens = record {
-  stage = stage_after opens;
-  property = draft.property;
-  facts = draft.facts;
-  tree = draft.tree ++ node ∷ [];
-  opens = opens;
-}
+with_node d node opens = draft_of stage.Tree d.version d.facts d.ids d.sections (grown_section d.current node) opens (d.nodes + 1)
+
+-- a tree without open nodes is whole
+abbrev pub settled_by : List ℕ → DraftState → DraftState
+settled_by [] d = draft_of stage.Sections d.version d.facts d.ids (d.sections ++ d.current ∷ []) no_section d.opens d.nodes
+settled_by (count ∷ counts) d = d
+
+abbrev pub settled : DraftState → DraftState
+settled d = settled_by d.opens d
 
 abbrev pub after : ℕ → DraftState → Statement → DraftState
-after number draft say.Version = at_stage draft stage.Property
-after number draft (say.Property id) = with_property draft id
+after number draft (say.Certificate version) = with_version draft version
+after number draft (say.Property id) = with_property draft number id
 after number draft (say.Fact name said) = with_facts draft (draft.facts ++ fact_at number name said ∷ [])
 after number draft (say.Step step) = with_facts draft (with_step draft.facts (step_at number step))
 after number draft say.Proof = at_stage draft stage.Tree
-after number draft (say.Node form) = with_node draft (node_at number form) (opens_after (branches_of form) draft.opens)
+after number draft (say.Node form) = settled (with_node draft (node_at number form) (opens_after (branches_of form) draft.opens))
 after number draft say.End = at_stage draft stage.Nothing
 
 -- a line: its faults in their order, or the draft after it
@@ -267,16 +259,12 @@ abbrev pub take_line : ℕ → DraftState → List ℕ → Result DraftState Cer
 take_line number draft bytes = take_said number draft (line_of bytes)
 
 abbrev pub cert_of : DraftState → Cert
-cert_of draft = record { property = draft.property; facts = draft.facts; tree = draft.tree }
+cert_of draft = record { version = draft.version; facts = draft.facts; sections = draft.sections }
 
 -- at the end of the lines; `number` is that of the line after the last
 abbrev pub finished_at : Stage → ℕ → DraftState → Result Cert CertFault
-finished_at stage.Version number draft = Err (fault.Line number)
-finished_at stage.Property number draft = Err (fault.Line number)
-finished_at stage.Facts number draft = Err (fault.Line number)
-finished_at stage.Tree number draft = Err (fault.Line number)
-finished_at stage.End number draft = Err (fault.Line number)
 finished_at stage.Nothing number draft = Ok (cert_of draft)
+finished_at at number draft = Err (fault.Line number)
 
 abbrev pub finished : ℕ → DraftState → Result Cert CertFault
 finished number draft = finished_at draft.stage number draft

@@ -6,6 +6,7 @@ use Rattle.cert_lines.specs.declared.certificates.Fact.{Fact}
 use Rattle.cert_lines.specs.declared.certificates.FactKind.{FactKind}
 use Rattle.cert_lines.specs.declared.certificates.FactKind.TheVariants.{Flow, Trap, Bound}
 use Rattle.cert_lines.specs.declared.certificates.Node.{Node}
+use Rattle.cert_lines.specs.declared.certificates.Section.{Section}
 use Rattle.cert_lines.specs.declared.certificates.Step.{Step}
 use Rattle.cert_reader.specs.Grammar.{Spells}
 
@@ -31,8 +32,11 @@ unnumbered_fact fact = record { line = 0; name = fact.name; kind = unnumbered_ki
 abbrev pub unnumbered_node : Node → Node
 unnumbered_node node = record { line = 0; form = node.form }
 
+abbrev pub unnumbered_section : Section → Section
+unnumbered_section section = record { line = 0; property = section.property; tree = map unnumbered_node section.tree }
+
 abbrev pub unnumbered : Cert → Cert
-unnumbered cert = record { property = cert.property; facts = map unnumbered_fact cert.facts; tree = map unnumbered_node cert.tree }
+unnumbered cert = record { version = cert.version; facts = map unnumbered_fact cert.facts; sections = map unnumbered_section cert.sections }
 
 -- what is written of a certificate that a file spells spells the same certificate, the numbers of lines aside
 abbrev pub WrittenIsRead : Type 0

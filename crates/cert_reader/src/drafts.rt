@@ -1,57 +1,71 @@
-ghost use Rattle.std.specs.Prelude.{◌≡◌, ◌++◌, ◌∷◌, [], false, true, Ok, Err, if◌then◌else◌, IfOk, OnOk};
+ghost use Rattle.std.specs.Prelude.{◌≡◌, ◌<◌, ◌^◌, ◌++◌, ◌∷◌, [], false, true, not, Ok, Err, if◌then◌else◌, IfOk, OnOk};
 ghost use Rattle.std.specs.List.{list_any};
 ghost use Rattle.std.specs.Str.{bytes_eq};
-ghost use Rattle.cert_reader.specs.Reading.{branches_of, claim_amounts, kind_of, node_amounts};
-ghost use Rattle.cert_lines.specs.Texts.{steps_of};
+ghost use Rattle.cert_reader.specs.Reading.{branches_of, claim_amounts, draft_of, is_one, kind_of, no_section, node_amounts, section_of, stage_behind};
+ghost use Rattle.cert_lines.specs.Order.{steps_of};
 ghost use Rattle.cert_lines.specs.Sums.{are_past};
 
 use crate::facts::Facts;
 use crate::faults::CertFault;
 use crate::stages::Stage;
 use cert_lines::{
-    Cert, Claim, Fact, FactKind, InstanceRef, Line, Node, NodeForm, Statement, Step, StepClaim,
-    is_past, read_line,
+    Cert, Claim, Fact, FactKind, InstanceRef, Line, Node, NodeForm, Section, Statement, Step,
+    StepClaim, Version, is_past, read_line,
 };
+use indexmap::IndexSet;
 use name_tables::Name;
 use prefix_trees::Opens;
 use sqlite_items::Items;
 use std::alloc::Global;
 use std::marker::Model;
+use std::mem;
 use wide_sums::Memory;
 
-/// The most nodes of a tree.
+/// The most nodes of all trees.
 const MAX_NODES: usize = 1_048_576;
 
-/// The greatest depth of a node.
+/// The greatest depth of a node in its tree.
 const MAX_DEPTH: usize = 256;
 
 /// A certificate of which some lines have been read.
 #[derive(Drop)]
 pub struct Draft {
     stage: Stage,
-    property: Name,
+    version: Version,
     facts: Facts,
+    /// The ids of all properties.
+    ids: IndexSet<Name>,
+    /// The sections whose tree is whole.
+    sections: Vec<Section>,
+    /// The last property and its tree so far.
+    line: u32,
+    property: Name,
     tree: Vec<Node>,
     opens: Opens,
+    /// How many nodes all trees have.
+    nodes: usize,
 }
 
 impl Model for Draft {
-    ghost use Rattle.cert_reader.specs.Reading.{DraftState};
+    ghost use Rattle.cert_reader.specs.Reading.{DraftState, section_of};
 
     ghost Value = { DraftState };
 
     ghost view = { λ d. record {
       stage = d.stage;
-      property = d.property;
+      version = d.version;
       facts = d.facts;
-      tree = d.tree.items;
+      ids = d.ids.keys;
+      sections = d.sections.items;
+      current = section_of d.line d.property d.tree.items;
       opens = d.opens;
+      nodes = d.nodes;
     } };
 }
 
 impl Draft {
     ghost use Rattle.prefix_trees.specs.Trees.{opens_after};
-    ghost use Rattle.cert_reader.specs.Reading.{HasTaken, after, cert_of, fact_at, finished, is_past_limits, last_fact, may_follow, may_stand, names_of, node_at, nothing_read, origins_of, same_origin, step_at, take_line, take_said, take_statement, takes_steps, with_facts, with_node, with_step};
+    ghost use Rattle.cert_reader.specs.Reading.{HasTaken, after, cert_of, fact_at, finished, is_past_limits, last_fact, may_close, may_follow, may_stand, names_of, node_at, nothing_read, origins_of, same_origin, settled, step_at, take_line, take_said, take_statement, takes_steps, with_facts, with_node, with_property, with_step, with_version};
 
     /// Nothing read.
     pub fn new(alloc: Global) -> Result<Draft, Memory>
@@ -59,10 +73,15 @@ impl Draft {
     {
         Ok(Draft {
             stage: Stage::Version,
-            property: Name::empty(alloc),
+            version: Version::One,
             facts: Facts::new(alloc),
+            ids: IndexSet::new(alloc),
+            sections: Vec::new(alloc),
+            line: 0,
+            property: Name::empty(alloc),
             tree: Vec::new(alloc),
             opens: Opens::new(alloc),
+            nodes: 0,
         })
     }
 
@@ -98,15 +117,11 @@ impl Draft {
             return Err(CertFault::Line { number });
         }
         match statement {
-            Statement::Version => {
-                self.stage = Stage::Property;
+            Statement::Certificate(version) => {
+                self.take_version(version);
                 Ok(())
             }
-            Statement::Property(id) => {
-                self.stage = Stage::Facts;
-                self.property = id;
-                Ok(())
-            }
+            Statement::Property(id) => self.take_property(alloc, number, id),
             Statement::Fact { name, claim } => self.take_fact(alloc, number, name, claim),
             Statement::Step(claim) => self.take_step(alloc, number, claim),
             Statement::Proof => {
@@ -119,6 +134,45 @@ impl Draft {
                 Ok(())
             }
         }
+    }
+
+    fn take_version(&mut self, version: Version)
+        ensures { self.new ≡ with_version self.old version }
+    {
+        self.version = version;
+        self.stage = match version {
+            Version::One => Stage::Property,
+            Version::Two => Stage::Facts,
+        };
+    }
+
+    /// Takes a property that may stand there.
+    fn take_property(&mut self, alloc: Global, number: u32, id: Name) -> Result<(), CertFault>
+        requires { may_stand self.old (Statement.Property id) ≡ true }
+        ensures { HasTaken result self.new (take_statement number self.old (Statement.Property id)) }
+    {
+        match add_name(alloc, &mut self.ids, &id) {
+            Ok(true) => {
+                self.begin(alloc, number, id);
+                Ok(())
+            }
+            Ok(false) => Err(CertFault::Repeated { number }),
+            Err(Memory) => Err(CertFault::Memory),
+        }
+    }
+
+    /// Begins the tree of a property whose id is there already.
+    fn begin(&mut self, alloc: Global, number: u32, id: Name)
+        ensures { self.new ≡ draft_of (stage_behind self.old.version) self.old.version self.old.facts self.old.ids
+            self.old.sections (section_of number id []) self.old.opens self.old.nodes }
+    {
+        self.line = number;
+        self.property = id;
+        self.tree = Vec::new(alloc);
+        self.stage = match self.version {
+            Version::One => Stage::Facts,
+            Version::Two => Stage::Proof,
+        };
     }
 
     /// Takes a fact that may stand there.
@@ -201,7 +255,7 @@ impl Draft {
     {
         match node_has_past_sums(alloc, &form) {
             Ok(true) => Err(CertFault::Coefficient { number }),
-            Ok(false) => self.add_node_within(number, form),
+            Ok(false) => self.add_node_within(alloc, number, form),
             Err(Memory) => Err(CertFault::Memory),
         }
     }
@@ -210,34 +264,52 @@ impl Draft {
         ensures { result ≡ may_stand self.now statement.now }
     {
         match self.stage {
-            Stage::Version => matches!(statement, Statement::Version),
+            Stage::Version => matches!(statement, Statement::Certificate(_)),
             Stage::Property => matches!(statement, Statement::Property(_)),
             Stage::Facts => self.may_follow(statement),
+            Stage::Proof => matches!(statement, Statement::Proof),
             Stage::Tree => matches!(statement, Statement::Node(_)),
-            Stage::End => matches!(statement, Statement::End),
+            Stage::Sections => self.may_close(statement),
             Stage::Nothing => false,
         }
     }
 
     fn may_follow(&self, statement: &Statement) -> bool
-        ensures { result ≡ may_follow self.now.facts statement.now }
+        ensures { result ≡ may_follow self.now.version self.now.facts statement.now }
     {
         match statement {
-            Statement::Fact { .. } | Statement::Proof => true,
+            Statement::Fact { .. } => true,
             Statement::Step(_) => self.facts.takes_steps(),
+            Statement::Proof => is_one(self.version),
+            Statement::Property(_) | Statement::End => !is_one(self.version),
             _ => false,
         }
     }
 
-    fn add_node_within(&mut self, number: u32, form: NodeForm) -> Result<(), CertFault>
+    fn may_close(&self, statement: &Statement) -> bool
+        ensures { result ≡ may_close self.now.version statement.now }
+    {
+        match statement {
+            Statement::Property(_) => !is_one(self.version),
+            Statement::End => true,
+            _ => false,
+        }
+    }
+
+    fn add_node_within(
+        &mut self,
+        alloc: Global,
+        number: u32,
+        form: NodeForm,
+    ) -> Result<(), CertFault>
         ensures { HasTaken result self.new (if is_past_limits self.old (Statement.Node form)
             then Err (CertFault.CertLimit number)
             else Ok (after number self.old (Statement.Node form))) }
     {
-        if self.tree.len() >= MAX_NODES || self.opens.count() >= MAX_DEPTH {
+        if self.nodes >= MAX_NODES || self.opens.count() >= MAX_DEPTH {
             return Err(CertFault::CertLimit { number });
         }
-        match self.add_node(number, form) {
+        match self.add_node(alloc, number, form) {
             Ok(()) => Ok(()),
             Err(Memory) => Err(CertFault::Memory),
         }
@@ -268,17 +340,45 @@ impl Draft {
         self.facts.add_step(alloc, step)
     }
 
-    fn add_node(&mut self, number: u32, form: NodeForm) -> Result<(), Memory>
-        ensures { OnOk result (self.new ≡ with_node self.old (node_at number form) (opens_after (branches_of form) self.old.opens)) }
+    fn add_node(&mut self, alloc: Global, number: u32, form: NodeForm) -> Result<(), Memory>
+        requires { self.old.nodes < 2 ^ 20 }
+        ensures { OnOk result (self.new ≡ after number self.old (Statement.Node form)) }
     {
         self.opens.enter(branches_of(&form))?;
         self.tree.push(Node { line: number, form })?;
-        self.stage = if self.opens.is_empty() {
-            Stage::End
-        } else {
-            Stage::Tree
-        };
+        self.nodes += 1;
+        self.stage = Stage::Tree;
+        self.settle(alloc)
+    }
+
+    /// Puts the tree behind the others, where it is whole.
+    fn settle(&mut self, alloc: Global) -> Result<(), Memory>
+        ensures { OnOk result (self.new ≡ settled self.old) }
+    {
+        if !self.opens.is_empty() {
+            return Ok(());
+        }
+        let section = self.take_section(alloc);
+        self.sections.push(section)?;
+        self.stage = Stage::Sections;
         Ok(())
+    }
+
+    /// The last property with its tree, which is left without one.
+    fn take_section(&mut self, alloc: Global) -> Section
+        ensures section { result ≡ self.old.current }
+        ensures rest { self.new ≡ draft_of self.old.stage self.old.version self.old.facts self.old.ids
+            self.old.sections no_section self.old.opens self.old.nodes }
+    {
+        let mut nodes = mem::replace(&mut self.tree, Vec::new(alloc));
+        nodes.shrink_to_fit();
+        let section = Section {
+            line: self.line,
+            property: mem::replace(&mut self.property, Name::empty(alloc)),
+            tree: Items::from_vec(nodes),
+        };
+        self.line = 0;
+        section
     }
 
     /// The certificate, where nothing is to come; `number` is that of the line after the last.
@@ -295,17 +395,31 @@ impl Draft {
         ensures { result ≡ cert_of self }
     {
         let Draft {
-            property,
+            version,
             facts,
-            tree,
+            sections,
             ..
         } = self;
         Cert {
-            property,
+            version,
             facts: facts.into_items(),
-            tree: Items::from_vec(tree),
+            sections: Items::from_vec(sections),
         }
     }
+}
+
+fn is_one(version: Version) -> bool
+    ensures { result ≡ is_one version }
+{
+    matches!(version, Version::One)
+}
+
+/// Puts a name behind the others, where none of them is the same; answers whether it did.
+fn add_name(alloc: Global, names: &mut IndexSet<Name>, name: &Name) -> Result<bool, Memory>
+    ensures is_new { IfOk result (λ added. added ≡ not (list_any (bytes_eq name.now) names.old.keys)) }
+    ensures names { IfOk result (λ added. names.new.keys ≡ (if added then names.old.keys ++ name.now ∷ [] else names.old.keys)) }
+{
+    Ok(names.insert(name.copy(alloc)?)?)
 }
 
 fn kind_of_claim(alloc: Global, claim: Claim) -> FactKind

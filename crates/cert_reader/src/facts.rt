@@ -2,7 +2,8 @@ ghost use Rattle.std.specs.Prelude.{◌≡◌, [], ◌∷◌, ◌++◌, false, t
 ghost use Rattle.std.specs.List.{list_any};
 ghost use Rattle.std.specs.Str.{bytes_eq};
 ghost use Rattle.indexmap.specs.IndexSet.{insert_key};
-ghost use Rattle.cert_reader.specs.Reading.{is_bound, origin_of, same_origin, stepped, with_step};
+ghost use Rattle.cert_lines.specs.Order.{origin_of};
+ghost use Rattle.cert_reader.specs.Reading.{is_bound, same_origin, stepped, with_step};
 
 use cert_lines::{Fact, FactKind, InstanceRef, Step};
 use indexmap::IndexSet;
@@ -34,8 +35,8 @@ impl Model for Facts {
 }
 
 impl Facts {
-    ghost use Rattle.cert_reader.specs.Reading.{last_fact, names_of, origins_of, same_origin, origin_of, takes_steps, with_step};
-    ghost use Rattle.cert_lines.specs.Texts.{steps_of};
+    ghost use Rattle.cert_reader.specs.Reading.{last_fact, names_of, origins_of, same_origin, takes_steps, with_step};
+    ghost use Rattle.cert_lines.specs.Order.{origin_of, steps_of};
 
     /// No facts.
     pub fn new(alloc: Global) -> Facts

@@ -9,8 +9,8 @@ mod reader;
 mod stages;
 
 pub use cert_lines::{
-    Cert, Fact, FactKind, Factor, InstanceRef, Multiplier, Node, NodeForm, PlaceRef, Step, Weight,
-    read_factor, read_instance, read_place, write_cert,
+    Cert, Fact, FactKind, Factor, InstanceRef, Multiplier, Node, NodeForm, PlaceRef, Section, Step,
+    Version, Weight, read_factor, read_instance, read_place, write_cert,
 };
 pub use faults::CertFault;
 pub use laws::{certificates_have_one_answer, written_certificate_is_read};

@@ -3,14 +3,16 @@
 pub enum Stage {
     /// The version line.
     Version,
-    /// The property line.
+    /// In version 1, the property line.
     Property,
-    /// A fact, a step of the last fact, or `proof`.
+    /// A fact, a step of the last fact, or what is to come behind the facts.
     Facts,
+    /// In version 2, `proof` behind a property.
+    Proof,
     /// A node of the tree.
     Tree,
-    /// `end`.
-    End,
+    /// In version 2 a property, and in both `end`.
+    Sections,
     /// There may be no such line.
     Nothing,
 }

@@ -1,6 +1,7 @@
 use Rattle.std.proofs.Common.{◌∙◌, ap, sym, ◌≡◌, true, false}
 use Rattle.std.specs.List.{list_any}
-use Rattle.cert_reader.specs.Reading.{last_fact, names_of, origin_of, origins_of, same_origin, takes_steps}
+use Rattle.cert_lines.specs.Order.{origin_of}
+use Rattle.cert_reader.specs.Reading.{last_fact, names_of, origins_of, same_origin, takes_steps}
 use Rattle.cert_reader.proofs.FactLists.{names_with_step, new_origin}
 use Rattle.cert_reader.proofs.facts.Facts.add_step.Goals as goal
 
