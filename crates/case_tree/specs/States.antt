@@ -49,6 +49,14 @@ pick (Some items) index = slice_index_or items index 0
 abbrev pub left_path : Path → Path
 left_path path = record path { entered = drop 1 path.entered }
 
+-- a hypothesis of the path, numbered from 1
+abbrev pub hypothesis_of : Path → ℕ → Option ℕ
+hypothesis_of path number = numbered (hypotheses_of path.items path.entered) number
+
+-- the hypotheses that items add, the first one's first
+abbrev pub hypotheses_in : List Added → List ℕ → List ℕ
+hypotheses_in items entered = flat_map (λ item. (added_by items item).hypotheses) entered
+
 -- the choices that items add, the first one's first
 abbrev pub choices_in : List Added → List ℕ → List (List ℕ)
 choices_in items entered = flat_map (λ item. (added_by items item).choices) entered

@@ -16,6 +16,15 @@ pub trait Agenda: Drop {
     fn weight(&self, item: usize) -> u64
         ensures { result ≡ weight (added_by (items self.now) item) };
 
+    /// How many hypotheses the item adds.
+    fn hypotheses(&self, item: usize) -> usize
+        ensures { result ≡ length (added_by (items self.now) item).hypotheses };
+
+    /// The number of a hypothesis that the item adds.
+    fn hypothesis(&self, item: usize, index: usize) -> usize
+        requires { index < length (added_by (items self.now) item).hypotheses }
+        ensures { result ≡ slice_index_or (added_by (items self.now) item).hypotheses index 0 };
+
     /// How many choices the item adds.
     fn choices(&self, item: usize) -> usize
         ensures { result ≡ length (added_by (items self.now) item).choices };

@@ -3,7 +3,7 @@ ghost use Rattle.cert_model.specs.Facts.{element};
 ghost use Rattle.path_bounds.specs.Held.{AreBounds};
 ghost use Rattle.case_tree.specs.Agendas.{added_by, bounds_of};
 ghost use Rattle.case_tree.specs.Bounds.{with_lowers, with_uppers};
-ghost use Rattle.case_tree.specs.States.{choice_of, last_weight, lowers_of, room_of, choices_in, count_of, left_path, paths_below, pick, uppers_of, with_item};
+ghost use Rattle.case_tree.specs.States.{hypotheses_in, hypothesis_of, choice_of, last_weight, lowers_of, room_of, choices_in, count_of, left_path, paths_below, pick, uppers_of, with_item};
 
 use crate::agendas::Agenda;
 use path_bounds::{Bounds, PathBounds};
@@ -205,6 +205,17 @@ impl<A: Agenda> CasePath<A> {
         choice_at(&self.agenda, &self.entered, number - 1)
     }
 
+    /// The number of a hypothesis of the path. The hypotheses are numbered from 1 in the order in which they were added, and `None`
+    /// means that it isn't there.
+    pub fn hypothesis(&self, number: usize) -> Option<usize>
+        ensures { result ≡ hypothesis_of self.now.path number }
+    {
+        if number == 0 {
+            return None;
+        }
+        hypothesis_at(&self.agenda, &self.entered, number - 1)
+    }
+
     /// How many items a choice of the path has. The choices are numbered from 1, and `None` means that it isn't there.
     pub fn choice_len(&self, number: usize) -> Option<usize>
         ensures { result ≡ count_of (choice_of self.now.path number) }
@@ -246,6 +257,21 @@ fn choice_at<A: Agenda>(agenda: &A, entered: &[usize], at: usize) -> Option<Choi
             });
         }
         left -= choices;
+    }
+    None
+}
+
+// The hypothesis that stands at this place among those of all items, from 0.
+fn hypothesis_at<A: Agenda>(agenda: &A, entered: &[usize], at: usize) -> Option<usize>
+    ensures { result ≡ element (hypotheses_in (A.items agenda.now) entered.now) at }
+{
+    let mut left = at;
+    for item in entered {
+        let hypotheses = agenda.hypotheses(*item);
+        if left < hypotheses {
+            return Some(agenda.hypothesis(*item, left));
+        }
+        left -= hypotheses;
     }
     None
 }

@@ -31,6 +31,14 @@ impl Agenda for Three {
         }
     }
 
+    fn hypotheses(&self, item: usize) -> usize {
+        if item == 0 { 1 } else { 0 }
+    }
+
+    fn hypothesis(&self, _item: usize, _index: usize) -> usize {
+        7
+    }
+
     fn choices(&self, item: usize) -> usize {
         if item == 0 { 2 } else { 0 }
     }
@@ -218,5 +226,27 @@ fn bounds_are_taken_back_where_an_item_is_left(rt: HostRuntime) {
     assert_eq!(rt;
         bounds_below(rt.alloc()),
         Some([(5, Some(4)), (2, None), (0, None), (0, None)])
+    );
+}
+
+/// The first hypotheses of a path on which the items 1, 0 and 0 were entered.
+fn hypotheses_below(alloc: Global) -> Option<[Option<usize>; 4]> {
+    let mut path = begun(alloc, 0)?.path;
+    path.enter(1).ok()?;
+    path.enter(0).ok()?;
+    path.enter(0).ok()?;
+    Some([
+        path.hypothesis(0),
+        path.hypothesis(1),
+        path.hypothesis(2),
+        path.hypothesis(3),
+    ])
+}
+
+#[test]
+fn hypotheses_are_numbered_from_one(rt: HostRuntime) {
+    assert_eq!(rt;
+        hypotheses_below(rt.alloc()),
+        Some([None, Some(7), Some(7), None])
     );
 }
