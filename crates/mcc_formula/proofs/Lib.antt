@@ -1,0 +1,5 @@
+pub mod Walks
+pub mod Given
+pub mod Popped
+pub mod LeftNotes
+pub mod ByPlace
