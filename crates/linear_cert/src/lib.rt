@@ -13,4 +13,4 @@ mod tallies;
 pub use cert_model::Check;
 pub use flows::{bound_true, flow_true};
 pub use forms::{Constant, Form, Term};
-pub use laws::bound_owes_its_base;
+pub use laws::{bound_owes_its_base, trap_owes_its_base};
