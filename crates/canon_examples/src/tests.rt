@@ -12,7 +12,7 @@ fn canonised(alloc: Global, text: &[u8]) -> Option<Vec<u8>> {
     let Ok(root) = read_pieces(alloc, &[text]) else {
         return None;
     };
-    let Ok(net) = read_net(alloc, &root) else {
+    let Ok(net) = read_net(alloc, root) else {
         return None;
     };
     match write_net(alloc, &net) {

@@ -19,7 +19,7 @@ pub fn net_of_tree(alloc: Global, root: Element) -> Result<Stage<Net>, Memory>
     ensures own_ids { IfOk result (λ stage. IfReached stage HasOwnIds) }
     ensures declared { IfOk result (λ stage. IfReached stage DeclaresOwnIds) }
 {
-    match read_net(alloc, &root) {
+    match read_net(alloc, root) {
         Ok(net) => Ok(Stage::Reached(net)),
         Err(ReadFault::Structure { at, kind }) => {
             let words = structure_words(alloc, at, kind)?;

@@ -6,4 +6,5 @@ pub mod ReadRoles
 pub mod Weights
 pub mod Declaring
 pub mod Distinct
+pub mod TakenLists
 pub mod OwnIds

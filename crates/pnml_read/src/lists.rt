@@ -1,4 +1,4 @@
-ghost use Rattle.std.specs.Prelude.{◌≡◌, IfOk, OnOk, codes, map};
+ghost use Rattle.std.specs.Prelude.{◌≡◌, ◌∷◌, [], IfOk, OnOk, codes, map};
 ghost use Rattle.pnml_read.specs.Nets.{text_in};
 ghost use Rattle.net_elements.specs.declared.roles.Role.TheVariants as role;
 ghost use Rattle.doc_model.specs.declared.tree.Element.{out-Element};
@@ -120,6 +120,97 @@ impl Lists {
         Ok(())
     }
 
+    /// Adds what an element has, as [`Lists::add`] does, and lets it go bit by bit.
+    #[cycle(taking)]
+    pub fn take(&mut self, alloc: Global, kind: Kind, element: Element) -> Result<(), Memory>
+        ensures { OnOk result (self.new ≡ both self.old ((given element).lists kind)) }
+    {
+        match role_named(LIST_ROLES, element.name.bytes()) {
+            Some(role) => self.take_as(alloc, kind, role, element),
+            None => Ok(()),
+        }
+    }
+
+    #[cycle(taking)]
+    fn take_as(
+        &mut self,
+        alloc: Global,
+        kind: Kind,
+        role: Role,
+        element: Element,
+    ) -> Result<(), Memory>
+        ensures { OnOk result (self.new ≡ both self.old (element_lists kind role element)) }
+    {
+        match role {
+            Role::Net
+            | Role::Page
+            | Role::Declaration
+            | Role::DeclarationStructure
+            | Role::Declarations => {
+                let Element { children, .. } = element;
+                self.take_all(alloc, kind, role, children)
+            }
+            _ => self.add_as(alloc, kind, role, &element),
+        }
+    }
+
+    /// Nodes are most often the children of one page that stands last, so that only the last child is looked into.
+    #[cycle(taking)]
+    fn take_all(
+        &mut self,
+        alloc: Global,
+        kind: Kind,
+        role: Role,
+        children: Items<Element>,
+    ) -> Result<(), Memory>
+        ensures { OnOk result (self.new ≡ both self.old (lists_in role kind (map given children))) }
+    {
+        let mut before = children;
+        let last = before.pop();
+        self.take_each(alloc, kind, role, before)?;
+        match last {
+            Some(child) => self.take_last(alloc, kind, role, child),
+            None => Ok(()),
+        }
+    }
+
+    #[cycle(taking)]
+    fn take_last(
+        &mut self,
+        alloc: Global,
+        kind: Kind,
+        role: Role,
+        child: Element,
+    ) -> Result<(), Memory>
+        ensures { OnOk result (self.new ≡ both self.old (lists_in role kind (given child ∷ []))) }
+    {
+        if is_passed_over(role, child.name.bytes()) {
+            return Ok(());
+        }
+        self.take(alloc, kind, child)
+    }
+
+    /// Adds what children have, and lets each go before the next one is looked at.
+    fn take_each(
+        &mut self,
+        alloc: Global,
+        kind: Kind,
+        role: Role,
+        children: Items<Element>,
+    ) -> Result<(), Memory>
+        ensures { OnOk result (self.new ≡ both self.old (lists_in role kind (map given children))) }
+    {
+        let mut children = children;
+        for at in 0..children.len() {
+            let child = &children.as_slice()[at];
+            if !is_passed_over(role, child.name.bytes()) {
+                self.add(alloc, kind, child)?;
+            }
+            children.set(at, blank(alloc)?);
+        }
+        Ok(())
+    }
+
     fn place(&mut self, alloc: Global, kind: Kind, element: &Element) -> Result<(), Memory>
         ensures { OnOk result (self.new ≡ both self.old (element_lists kind role.Place element.now)) }
     {
@@ -224,6 +315,17 @@ impl Lists {
             arcs,
         }
     }
+}
+
+/// An element that holds nothing, and takes no memory.
+fn blank(alloc: Global) -> Result<Element, Memory> {
+    Ok(Element {
+        at: 0,
+        name: Name::new(alloc, b"")?,
+        attributes: Items::new(alloc),
+        children: Items::new(alloc),
+        text: Name::new(alloc, b"")?,
+    })
 }
 
 fn id_of(alloc: Global, element: &Element) -> Result<Name, Memory>
