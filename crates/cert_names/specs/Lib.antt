@@ -1,0 +1,5 @@
+pub mod Numbers
+pub mod Lines
+pub mod Sections
+pub mod Laws
+pub mod Examples
