@@ -22,6 +22,7 @@ pub mod Makers
 pub mod Marking
 pub mod Nodes
 pub mod Operators
+pub mod StandingOver
 pub mod Pieces
 pub mod Readings
 pub mod Roots

@@ -31,7 +31,7 @@ use Rattle.multiset_terms.specs.Context.{Context, Declarations}
 use Rattle.multiset_terms.specs.Laws.{IsOnce}
 use Rattle.multiset_terms.specs.Standing.{Binds, StandsFor, occurs}
 use Rattle.multiset_terms.specs.Trees.{Reading, are_colours, most_colours, reading, uses_at}
-use Rattle.multiset_terms.specs.Typing.{Broken, children, is_block, is_choice, is_colour, judged, leaf, sort_named, sort_of_kind, type_of}
+use Rattle.multiset_terms.specs.Typing.{Broken, children, is_block, is_choice, is_colour, judged, leaf, over, sort_named, sort_of_kind, type_of, type_over}
 use Rattle.multiset_terms.specs.Values.{Binding, Meaning, colours_of, many, meaning, one_colour}
 use Rattle.multiset_terms.specs.Weights.{first_heavy, heavy_first, product, weighed, weighed_node}
 
@@ -269,6 +269,16 @@ IsCompiled ctx marking t (Ok compiled) = IsTyped ctx marking t × (first_heavy c
 IsCompiled ctx marking t (Err (term_fault.IllTyped at rule)) = type_of ctx marking t ≡ Err (at, rule)
 IsCompiled ctx marking t (Err (term_fault.Weight at)) = IsTyped ctx marking t × (first_heavy ctx t ≡ Some at)
 IsCompiled ctx marking t (Err term_fault.Memory) = Unit {0}
+
+-- the same of a term that has to stand over a sort
+abbrev pub IsTypedOver : Context → Bool → Sort → Term → Type 0
+IsTypedOver ctx marking s t = (k : Kind) × (type_over ctx marking s t ≡ Ok k)
+
+abbrev pub IsCompiledOver : Context → Bool → Sort → Term → Result CTerm TermFault → Type 0
+IsCompiledOver ctx marking s t (Ok compiled) = IsTypedOver ctx marking s t × (first_heavy ctx t ≡ None) × (StandsFor ctx marking t compiled)
+IsCompiledOver ctx marking s t (Err (term_fault.IllTyped at rule)) = type_over ctx marking s t ≡ Err (at, rule)
+IsCompiledOver ctx marking s t (Err (term_fault.Weight at)) = IsTypedOver ctx marking s t × (first_heavy ctx t ≡ Some at)
+IsCompiledOver ctx marking s t (Err term_fault.Memory) = Unit {0}
 
 -- the same of a fault that was met in a part
 abbrev pub IsFaultOf : PartFault → TermFault → Type 0

@@ -1,6 +1,6 @@
 -- The types of terms and guards, by a table of rules for the symmetric nets of ISO/IEC 15909-2. The rules and their order are
 -- this project's own.
-use Rattle.std.specs.Prelude.{ℕ, suc, ◌+◌, Bool, true, false, not, ◌&&◌, ◌||◌, nat_eq, List, [], ◌∷◌, map, ℤ, int_le, Option, None, Some, Result, Ok, Err, position, if◌then◌else◌, slice_index_or, sum_by}
+use Rattle.std.specs.Prelude.{◌≡◌, ℕ, suc, ◌+◌, Bool, true, false, not, ◌&&◌, ◌||◌, nat_eq, List, [], ◌∷◌, map, ℤ, int_le, Option, None, Some, Result, Ok, Err, position, if◌then◌else◌, slice_index_or, sum_by}
 use Rattle.std.specs.List.{list_all, list_any}
 use Rattle.std.specs.Str.{bytes_eq}
 use Rattle.colour_sorts.specs.declared.rules.Rule.{Rule}
@@ -250,3 +250,20 @@ judged_guard ctx g = fold-Guard (Judged (Unit {0})) (guard_part ctx) g
 
 abbrev pub type_of_guard : Context → Guard → Result (Unit {0}) Broken
 type_of_guard ctx g = (judged_guard ctx g).verdict
+
+-- a multiset over a sort, of which a colour is one: what it is, or the rule that it breaks
+abbrev pub over_kind : Sort → Kind → Result Kind Rule
+over_kind s k = wants (not (is_block k)) rule.NotAMultiset (wants (stands_over s k) rule.SortsDiffer (Ok k))
+
+abbrev pub over : Sort → Result Kind Broken → Result Kind Broken
+over s (Ok k) = at_root (over_kind s k)
+over s (Err broken) = Err broken
+
+-- what a term is that has to stand over a sort, or its first broken node; the term itself breaks a rule where it stands elsewhere
+abbrev pub type_over : Context → Bool → Sort → Term → Result Kind Broken
+type_over ctx marking s t = over s (type_of ctx marking t)
+
+-- the rule by which a kind is refused, or the kind that is taken
+abbrev pub IsOverRule : Result Kind Rule → Kind → Option Rule → Type 0
+IsOverRule found k None = found ≡ Ok k
+IsOverRule found k (Some broken) = found ≡ Err broken

@@ -98,14 +98,16 @@ pub fn is_block(term: &CTerm) -> bool
 
 /// The gross total of a term: how many elements it stands for at most.
 pub fn gross(term: &CTerm) -> u64
-    ensures { (ctx : Context) (marking : Bool) (t : AnyTerm) → StandsFor ctx marking t term.now → result ≡ gross_of ctx t }
+    ensures is { result ≡ term.now.gross }
+    ensures gross { (ctx : Context) (marking : Bool) (t : AnyTerm) → StandsFor ctx marking t term.now → result ≡ gross_of ctx t }
 {
     term.gross
 }
 
 /// The support of a term: at how many colours it has elements at most. What is greater than 2^63 is told as 2^63.
 pub fn support(term: &CTerm) -> u64
-    ensures { (ctx : Context) (marking : Bool) (t : AnyTerm) → StandsFor ctx marking t term.now → result ≡ support_of ctx t }
+    ensures is { result ≡ term.now.support }
+    ensures support { (ctx : Context) (marking : Bool) (t : AnyTerm) → StandsFor ctx marking t term.now → result ≡ support_of ctx t }
 {
     term.support
 }

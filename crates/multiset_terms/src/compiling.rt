@@ -1,7 +1,8 @@
-ghost use Rattle.std.specs.Prelude.{◌≡◌, Bool};
+ghost use Rattle.std.specs.Prelude.{◌≡◌, Bool, IfOk};
 ghost use Rattle.net_model.specs.declared.terms.Term.{Term as AnyTerm};
 ghost use Rattle.multiset_terms.specs.Context.{Context};
 ghost use Rattle.multiset_terms.specs.Parts.{AreAnswered, AreSized, IsAnswer, IsCompiled, IsDeclared, IsPart, IsScope};
+ghost use Rattle.multiset_terms.specs.Typing.{is_block as is_block_kind, sort_of_kind};
 
 use crate::compiled::CTerm;
 use crate::faults::{PartFault, TermFault};
@@ -146,8 +147,9 @@ pub fn compile_term(
 }
 
 /// The whole term of a part, or its first heavy node.
-fn finished(part: Part) -> Result<CTerm, TermFault>
-    ensures { (ctx : Context) (marking : Bool) (t : AnyTerm) → IsPart ctx marking t part → IsCompiled ctx marking t result }
+pub fn finished(part: Part) -> Result<CTerm, TermFault>
+    ensures is { IfOk result (λ term. (term.block ≡ is_block_kind part.kind) × (term.sort ≡ sort_of_kind part.kind)) }
+    ensures compiled { (ctx : Context) (marking : Bool) (t : AnyTerm) → IsPart ctx marking t part → IsCompiled ctx marking t result }
 {
     if let Some(at) = part.heavy {
         return Err(TermFault::Weight { at });

@@ -188,7 +188,8 @@ fn is_alike(first: &Kind, second: &Kind) -> bool
     }
 }
 
-fn is_over(sort: &Sort, kind: &Kind) -> bool
+/// Whether what is no block stands over a sort.
+pub fn is_over(sort: &Sort, kind: &Kind) -> bool
     ensures { result ≡ stands_over sort.now kind.now }
 {
     match kind {

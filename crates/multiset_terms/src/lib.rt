@@ -18,6 +18,7 @@ mod laws;
 mod leaves;
 mod making;
 mod marks;
+mod over;
 mod parts;
 mod sharing;
 mod trees;
@@ -42,5 +43,6 @@ pub use laws::{
     values_depend_on_variables,
 };
 pub use net_model::{Guard, Order, Term};
+pub use over::compile_over;
 pub use sharing::compiled_terms_are_shared;
 pub use variables::Variables;

@@ -1,0 +1,4 @@
+pub mod Firsts
+pub mod Gathered
+pub mod PlacesFound
+pub mod SortsFound
