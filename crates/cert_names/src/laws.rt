@@ -2,11 +2,17 @@
 ghost use Rattle.pt_net.specs.Numbering.{NetNumbering};
 ghost use Rattle.pt_net.specs.Systems.{NetSystem, IsSystem};
 ghost use Rattle.cert_names.specs.Examples.{ExamplesAreRight};
-ghost use Rattle.cert_names.specs.Laws.{EachIsShown, ShownHoldsAtReached};
+ghost use Rattle.cert_names.specs.Laws.{AreNumbersOf, EachIsShown, NamesAreNumbered, ShownHoldsAtReached};
 
 /// What the definitions give of a small certificate.
 pub fn examples_are_right()
     ensures { ExamplesAreRight }
+{}
+
+/// Names are numbered exactly: a name on a line is there where it stands for something and nowhere
+/// else, and each place, colour and transition instance has the number of its own name.
+pub fn names_are_numbered()
+    ensures { (l : NetNumbering) (net : NetSystem) → AreNumbersOf l net → NamesAreNumbered l net }
 {}
 
 /// Where a section of a certificate is judged `Shown`, its invariant is true at each marking that

@@ -6,4 +6,4 @@
 
 mod laws;
 
-pub use laws::{each_is_shown, examples_are_right, shown_holds_at_reached};
+pub use laws::{each_is_shown, examples_are_right, names_are_numbered, shown_holds_at_reached};
