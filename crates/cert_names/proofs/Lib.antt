@@ -1,2 +1,4 @@
 pub mod Names
+pub mod Sums
+pub mod Claims
 pub mod Shown

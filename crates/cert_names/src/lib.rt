@@ -6,4 +6,7 @@
 
 mod laws;
 
-pub use laws::{each_is_shown, examples_are_right, names_are_numbered, shown_holds_at_reached};
+pub use laws::{
+    claims_hold, each_is_shown, examples_are_right, facts_are_claims, names_are_numbered,
+    shown_holds_at_reached, splits_are_claims,
+};
