@@ -2,6 +2,7 @@
 use Rattle.std.specs.Prelude.{◌≡◌, ◌<◌, ℕ, ◌+◌, true, ◌&&◌, nat_lt, List, [], length, All, slice_index, slice_index_or, Option, None, Some, is_some}
 use Rattle.std.specs.List.{AllByRecursion, IsDistinct}
 use Rattle.std.specs.Str.{bytes_eq}
+use Rattle.prefix_trees.specs.Trees.{IsSomeTree}
 use Rattle.tree_visits.specs.Forests.{are_trees}
 use Rattle.pt_net.specs.Numbering.{IsNumbering, NetNumbering}
 use Rattle.pt_net.specs.Systems.{NetSystem, IsSystem, PtReach, instance_at}
@@ -52,3 +53,7 @@ ShownHoldsAtReached l net = (all : List Fact) (invariant : Formula) (nodes : Lis
 abbrev pub EachIsShown : NetNumbering → NetSystem → Type 0
 EachIsShown l net = (all : List Fact) (sections : List (Formula × List Node)) → judgement l net all sections ≡ Shown
     → AllByRecursion (λ section. section_judgement l net all section ≡ Shown) sections
+
+-- a tree of the grammar, whatever counts the branches of its nodes, is one tree of the walk
+abbrev pub TreesAreWalked : Type 0
+TreesAreWalked = (count : Node → ℕ) → ((node : Node) → count node ≡ branches_of node) → (nodes : List Node) → IsSomeTree count nodes → are_trees branches_of 1 nodes ≡ true

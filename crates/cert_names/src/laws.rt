@@ -3,7 +3,7 @@ ghost use Rattle.pt_net.specs.Numbering.{NetNumbering};
 ghost use Rattle.pt_net.specs.Systems.{NetSystem, IsSystem};
 ghost use Rattle.cert_names.specs.Examples.{ExamplesAreRight};
 ghost use Rattle.cert_names.specs.Meanings.{ClaimsHold, FactsAreClaims, SplitsAreClaims};
-ghost use Rattle.cert_names.specs.Laws.{AreNumbersOf, EachIsShown, NamesAreNumbered, ShownHoldsAtReached};
+ghost use Rattle.cert_names.specs.Laws.{AreNumbersOf, EachIsShown, NamesAreNumbered, ShownHoldsAtReached, TreesAreWalked};
 
 /// What the definitions give of a small certificate.
 pub fn examples_are_right()
@@ -43,4 +43,9 @@ pub fn splits_are_claims()
 /// the net reaches.
 pub fn claims_hold()
     ensures { (l : NetNumbering) (net : NetSystem) → IsSystem net → ClaimsHold l net }
+{}
+
+/// The nodes of a tree, as the grammar of certificates has it, are one tree of the walk.
+pub fn trees_are_walked()
+    ensures { TreesAreWalked }
 {}

@@ -8,5 +8,5 @@ mod laws;
 
 pub use laws::{
     claims_hold, each_is_shown, examples_are_right, facts_are_claims, names_are_numbered,
-    shown_holds_at_reached, splits_are_claims,
+    shown_holds_at_reached, splits_are_claims, trees_are_walked,
 };
