@@ -1,4 +1,5 @@
-//! What a certificate shows of the goals of its properties, over a coloured net.
+//! What a certificate shows of the goals of its properties, over a coloured net, and which tokens its
+//! names stand for.
 //!
 //! There is nothing to call: the definitions are those that contracts of other crates cite, and
 //! each law is the contract of a function that does nothing.
@@ -6,4 +7,4 @@
 
 mod laws;
 
-pub use laws::{shown_holds, shown_sections_hold};
+pub use laws::{shown_holds, shown_sections_hold, tokens_are_named};
