@@ -7,13 +7,13 @@ use Rattle.pt_net.specs.Systems.{NetSystem, system_of}
 use Rattle.line_words.specs.declared.items.PlaceRef.{PlaceRef}
 use Rattle.line_words.specs.declared.items.Weight.{Weight}
 use Rattle.cert_lines.specs.declared.certificates.Fact.{Fact}
-use Rattle.cert_lines.specs.declared.certificates.FactKind.TheVariants.{Flow, Bound}
+use Rattle.cert_lines.specs.declared.certificates.FactKind.TheVariants.{Flow, Trap, Bound}
 use Rattle.cert_lines.specs.declared.certificates.Node.{Node}
-use Rattle.cert_lines.specs.declared.certificates.NodeForm.TheVariants.{Close}
+use Rattle.cert_lines.specs.declared.certificates.NodeForm.TheVariants.{Close, Clash, Split}
 use Rattle.line_words.specs.declared.items.Factor.{Factor}
 use Rattle.line_words.specs.declared.items.Multiplier.TheVariants as multiplier
 use Rattle.cert_model.specs.Formulas.{Formula, Compare}
-use Rattle.cert_model.specs.Judging.{Shown, NotShown, AtNode}
+use Rattle.cert_model.specs.Judging.{Shown, NotShown, Base, AtNode}
 use Rattle.cert_model.specs.Judging as judging
 use Rattle.cert_names.specs.Numbers.{interval_of, instance_of}
 use Rattle.cert_names.specs.Lines.{missing_line}
@@ -72,6 +72,21 @@ close_with name = record { line = 7; form = Close (multiplier.Hypothesis (pos 1)
 abbrev facts : List Fact
 facts = one_token ∷ at_most_three (codes "f") ∷ []
 
+-- `split 3 1*q@0 1*c`, `close 1*@1 1*@2` and `close 1*@2 1*g` from line 7 on
+abbrev split_at_three : List Node
+split_at_three =
+    record { line = 7; form = Split (pos 3) (weight (pos 1) (codes "q") (Some 0) ∷ weight (pos 1) (codes "c") None ∷ []) }
+    ∷ record { line = 8; form = Close (multiplier.Hypothesis (pos 1) 1 ∷ multiplier.Hypothesis (pos 1) 2 ∷ []) }
+    ∷ record { line = 9; form = Close (multiplier.Hypothesis (pos 1) 2 ∷ multiplier.Fact (factor (pos 1) (codes "g")) ∷ []) } ∷ []
+
+-- `trap g ..` in line 4
+abbrev trap_of : List PlaceRef → Fact
+trap_of places = record { line = 4; name = codes "g"; kind = Trap places }
+
+-- `1 <= p + q@0`
+abbrev some_there : Formula
+some_there = Compare (record { coefficient = coefficient layout (weight (pos 1) (codes "p") None ∷ weight (pos 1) (codes "q") (Some 0) ∷ []); constant = negsuc 0 ∷ [] })
+
 pub record ExamplesAreRight : Type 0 where
   pub whole : interval_of layout (place (codes "q") None) ≡ Some (record { first = 2; end = 4 })
   pub coloured : interval_of layout (place (codes "q") (Some 1)) ≡ Some (record { first = 3; end = 4 })
@@ -90,3 +105,9 @@ pub record ExamplesAreRight : Type 0 where
   pub not_shown : judgement layout circle facts ((at_most, close_with (codes "f") ∷ []) ∷ []) ≡ NotShown 7 AtNode
   -- without a step line the bound isn't kept
   pub no_step : judgement layout circle (none_there ∷ []) [] ≡ NotShown 4 (judging.Step 0)
+  -- the constant place counts on both sides of a split
+  pub split : judgement layout circle facts ((at_most, split_at_three) ∷ []) ≡ Shown
+  pub trap : judgement layout circle (trap_of (place (codes "p") None ∷ place (codes "q") (Some 0) ∷ []) ∷ []) ((some_there, close_with (codes "g") ∷ []) ∷ []) ≡ Shown
+  -- constant places are passed over in traps, and no clash
+  pub constant_trap : judgement layout circle (trap_of (place (codes "c") None ∷ []) ∷ []) [] ≡ NotShown 4 Base
+  pub constant_clash : judgement layout circle facts ((at_most, record { line = 7; form = Clash (place (codes "c") None) } ∷ []) ∷ []) ≡ NotShown 7 AtNode

@@ -22,4 +22,8 @@ returns c = record {
   shown = refl;
   not_shown = refl;
   no_step = refl;
+  split = refl;
+  trap = refl;
+  constant_trap = refl;
+  constant_clash = refl;
 }
