@@ -1,4 +1,10 @@
+pub mod ArcsFound
+pub mod EndsFound
 pub mod Firsts
 pub mod Gathered
 pub mod PlacesFound
 pub mod SortsFound
+pub mod Weighing
+pub mod ArcsListed
+pub mod ArcsWeighed
+pub mod ArcsGathered

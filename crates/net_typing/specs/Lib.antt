@@ -1,3 +1,5 @@
 pub mod Refusals
 pub mod Rules
 pub mod Standing
+pub mod TypedArcs
+pub mod Weights

@@ -97,7 +97,7 @@ impl NetFault {
     }
 
     /// The refusal of what has this id and too many elements.
-    fn too_heavy(alloc: Global, id: &Name) -> NetFault
+    pub fn too_heavy(alloc: Global, id: &Name) -> NetFault
         ensures { IsRefusal (too_heavy id.now true) result }
     {
         match id.copy(alloc) {

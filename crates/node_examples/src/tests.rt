@@ -22,7 +22,7 @@ fn nodes(alloc: Global, references: &[u8]) -> Result<Option<Result<NodeTable, No
     let Ok(root) = read_pieces(alloc, &[text.as_slice()]) else {
         return Ok(None);
     };
-    match read_net(alloc, &root) {
+    match read_net(alloc, root) {
         Ok(net) => Ok(Some(NodeTable::of(alloc, &net))),
         Err(_) => Ok(None),
     }
